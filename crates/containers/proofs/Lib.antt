@@ -1,0 +1,3 @@
+-- The lemmas, by what they are about.
+pub mod Prefixes
+pub mod Rings
