@@ -14,6 +14,7 @@ use Rattle.rows.specs.Views.{waiting, plain-fits}
 use Rattle.rows.proofs.Laws.{fits-sound}
 use Rattle.book.specs.declared.store.Book.{Book}
 use Rattle.book.specs.Views.{book-state}
+use Rattle.tables.specs.Tables.{rows-fit, lawful}
 use Rattle.groups.specs.Memory.{state}
 use Rattle.groups.specs.Obeys.{rows-obey}
 use Rattle.groups.proofs.Obeyed.{obeyed-at}
@@ -42,6 +43,11 @@ seen-obeys n (suc m) job (r ∷ rs) o =
     let p = and-parts (plain-fits n job r) (rows-obey (plain-fits n) (job + 1) rs) o in
     and-from _ _ (and-parts _ (row-fits n job (waiting r)) (p .0) .1) (seen-obeys n m (job + 1) rs (p .1))
 
+-- the row law of all rows, as tables state it
+fit-obeyed : (n job : ℕ) (rows : List Waiting) → rows-obey (row-fits n) job rows ≡ rows-fit n job rows
+fit-obeyed n job [] = refl
+fit-obeyed n job (w ∷ ws) = ap (λ b. row-fits n job w && b) (fit-obeyed n (job + 1) ws)
+
 -- ---- of a book
 
 pub jobs-seen : (b : Book) → length (book-state b .rows) ≡ b .jobs
@@ -51,3 +57,9 @@ pub fits-seen : (b : Book) (job : ℕ) → job < b .jobs → row-fits (b .jobs) 
 fits-seen b job j =
     let k : job + 0 ≡ job = omega arith in
     subst (λ i. row-fits (b .jobs) i (at (book-state b .rows) job) ≡ true) k (obeyed-at (row-fits (b .jobs)) 0 (book-state b .rows) job idle (omega (arith, jobs-seen b)) (seen-obeys (b .jobs) (b .jobs) 0 (state (b .groups) .rows) (b .lawful)))
+
+pub lawful-seen : (b : Book) → lawful (book-state b .rows) ≡ true
+lawful-seen b =
+    ap (λ n. rows-fit n 0 (book-state b .rows)) (jobs-seen b)
+    ∙ sym (fit-obeyed (b .jobs) 0 (book-state b .rows))
+    ∙ seen-obeys (b .jobs) (b .jobs) 0 (state (b .groups) .rows) (b .lawful)

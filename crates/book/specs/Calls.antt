@@ -1,4 +1,5 @@
 -- The calls of a book, and what an accepted one changes.
+use mathlib.Core.Bool.{Bool, true, false}
 use mathlib.Core.List.{List}
 use Prim.Native.Nat.{ℕ}
 use Rattle.rows.specs.Waiting.{Waiting, at}
@@ -16,6 +17,11 @@ pub data Call : Type 0 where
   opens : Call
   keeps : (mark depth : ℕ) → Call
   cancels : (mark depth : ℕ) → Call
+
+-- An ending, which keeps the innermost group or cancels it.
+abbrev pub ends : (keeping : Bool) (mark depth : ℕ) → Call
+ends true mark depth = keeps mark depth
+ends false mark depth = cancels mark depth
 
 -- The job whose row an edit writes.
 abbrev pub job-of : Edit → ℕ

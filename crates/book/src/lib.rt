@@ -13,4 +13,6 @@ pub use groups::Ticket;
 pub use rows::PlainRow;
 pub use rows::TARGETS_MAX;
 pub use store::Book;
+pub use store::BookTable;
+pub use store::BookTwoWayTable;
 pub use store::JOBS_MAX;

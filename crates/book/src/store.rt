@@ -1,7 +1,10 @@
 // The book's data, with its law.
 mod calls;
 mod questions;
+mod tables;
 
+pub use self::tables::BookTable;
+pub use self::tables::BookTwoWayTable;
 use groups::Groups;
 use rows::PlainRow;
 ghost use mathlib.Core.Path.{_≡_};

@@ -1,3 +1,4 @@
 -- The lemmas, by what they are about.
+pub mod Places
 pub mod Prefixes
 pub mod Rings

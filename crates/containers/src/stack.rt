@@ -5,8 +5,9 @@ ghost use mathlib.Core.List.{[], _∷_, _++_};
 ghost use Prim.Native.Nat.{_+_, _<_, _≤_};
 ghost use lib.ListN.{length};
 ghost use lib.Dec.{ltb};
+ghost use Rattle.std.specs.Holes.{inserted};
 ghost use Rattle.containers.specs.Stacks.{«stack-items», «stack-room»};
-ghost use Rattle.containers.specs.Taken.{TookLast};
+ghost use Rattle.containers.specs.Taken.{TookAt, TookLast};
 
 // The records are the first `len` cells, the newest last; where `len` says more than there are cells, all of them.
 #[derive(Drop)]
@@ -92,6 +93,36 @@ impl<'a, T: Copy> Stack<'a, T> {
         self.cells[last]
     }
 
+    // Takes the record at the place into `out`, the oldest being at place 0; the others keep their order. Past the last place
+    // it answers false, and it and `out` stay as they are.
+    pub fn remove(&mut self, place: usize, out: &mut T) -> bool
+        ensures test { λ r. ⌜ r ≡ ltb place (length (stack-items (now (self .entry)))) ⌝ }
+        ensures items { λ r. ⌜ TookAt place r (stack-items (now (self .entry))) (stack-items (now (self .exit))) (now (out .entry)) (now (out .exit)) ⌝ }
+        ensures len { λ r. ⌜ length (stack-items (now (self .exit))) + cond r 1 0 ≡ length (stack-items (now (self .entry))) ⌝ }
+        ensures capacity { λ _. ⌜ stack-room (now (self .exit)) ≡ stack-room (now (self .entry)) ⌝ }
+    {
+        if self.len() <= place {
+            return false;
+        }
+        *out = self.extract(place);
+        true
+    }
+
+    // Takes the record at the place, where there is one: those above it move down by one.
+    fn extract(&mut self, place: usize) -> T
+        requires { ⌜ place < length (stack-items (now self)) ⌝ }
+        ensures items { λ r. ⌜ stack-items (now (self .entry)) ≡ inserted (stack-items (now (self .exit))) place r ⌝ }
+        ensures len { λ _. ⌜ length (stack-items (now (self .exit))) + 1 ≡ length (stack-items (now (self .entry))) ⌝ }
+        ensures capacity { λ _. ⌜ stack-room (now (self .exit)) ≡ stack-room (now (self .entry)) ⌝ }
+    {
+        let len = self.len();
+        let record = self.cells[place];
+        let above = &mut self.cells[place..len];
+        above.rotate_left(1);
+        self.len = len - 1;
+        record
+    }
+
     // Lets go of every record.
     pub fn clear(&mut self)
         ensures items { λ _. ⌜ stack-items (now (self .exit)) ≡ [] ⌝ }
@@ -125,6 +156,23 @@ mod tests {
             out = 7;
             check(!stack.take(&mut out))?;
             check_eq(out, 7)?;
+        }
+        Ok(())
+    }
+
+    // The record at each place leaves alone, and past the last place none does.
+    #[test]
+    fn gives_the_record_at_a_place() -> Result<(), Fail> {
+        for place in 0..4 {
+            let mut cells = [0; 3];
+            let mut stack = Stack::new(&mut cells);
+            check(stack.put(0) && stack.put(1) && stack.put(2))?;
+            let mut out = 3;
+            check_eq(stack.remove(place, &mut out), place < 3)?;
+            check_eq(out, place)?;
+            let newest = if place == 2 { 1 } else { 2 };
+            check(stack.take(&mut out))?;
+            check_eq(out, newest)?;
         }
         Ok(())
     }

@@ -42,7 +42,8 @@ impl Starts {
         ensures test { λ r. ⌜ r ≡ ltb (length (starts-of (now (self .entry)))) depth-max ⌝ }
         ensures after { λ r. ⌜ starts-of (now (self .exit)) ≡ cond r (start ∷ starts-of (now (self .entry))) (starts-of (now (self .entry))) ⌝ }
     {
-        if self.len >= DEPTH_MAX {
+        let full = self.len >= DEPTH_MAX;
+        if full {
             return false;
         }
         self.places[self.len] = start;

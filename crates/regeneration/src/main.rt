@@ -69,6 +69,25 @@ fn later_group(rt: &LibcRuntime, book: &mut Book) -> Result<(), Trouble> {
     Ok(())
 }
 
+// A careless edit: two views that wait for each other.
+fn views_in_a_circle(rt: &LibcRuntime, book: &mut Book) -> Result<(), Trouble> {
+    ask(rt, book, TOP_VIEW, 1, &[SECTION_VIEW])?;
+    ask(rt, book, SECTION_VIEW, 1, &[TOP_VIEW])?;
+    println!(rt, "what waits inside the group:")?;
+    show::waiting(rt, book)
+}
+
+// The careless edit in a group of its own, which is cancelled when the reduction finds jobs stuck.
+fn careless_group(rt: &LibcRuntime, book: &mut Book) -> Result<(), Trouble> {
+    println!(rt, "a group is opened for two views")?;
+    let ticket = book.open()?;
+    let worked = views_in_a_circle(rt, book);
+    book.cancel(ticket)?;
+    worked?;
+    println!(rt, "the group is cancelled: the views would never be done")?;
+    Ok(())
+}
+
 // Faces, meshes and views are done one after the other.
 fn afternoon(rt: &LibcRuntime, book: &mut Book) -> Result<(), Trouble> {
     grant(rt, book, LEFT_FACE, FILLET)?;
@@ -83,6 +102,7 @@ fn day(rt: &LibcRuntime, book: &mut Book) -> Result<(), Trouble> {
     morning(rt, book)?;
     failing_group(rt, book)?;
     later_group(rt, book)?;
+    careless_group(rt, book)?;
     afternoon(rt, book)
 }
 

@@ -1,6 +1,13 @@
-// Rows as lines of text.
+// Rows as lines of text, with the reduction's word.
+use crate::names::JOBS;
 use crate::names::name_of;
+use crate::trouble::Trouble;
+use crate::trouble::TroubleFromOutput;
+use crate::trouble::TroubleFromReductionFault;
 use book::Book;
+use book::BookTable;
+use reduction::HELD;
+use reduction::reduce;
 use std::io;
 
 // What a job needs, and for what it waits.
@@ -20,19 +27,18 @@ pub fn row(rt: &LibcRuntime, book: &Book, job: u8) -> io::Result<()> {
     Ok(())
 }
 
-// A line with the row of a job.
-pub fn line(rt: &LibcRuntime, book: &Book, job: u8) -> io::Result<()> {
-    let name = name_of(job);
-    print!(rt, "  {name}: ")?;
-    row(rt, book, job)?;
-    println!(rt, "")
-}
-
-// The jobs that wait.
-pub fn waiting(rt: &LibcRuntime, book: &Book) -> io::Result<()> {
-    for job in 0..=u8::MAX {
-        if book.need(job as usize) > 0 {
-            line(rt, book, job)?;
+// The jobs that wait, each with the word of the reduction: stuck, or only slow.
+pub fn waiting(rt: &LibcRuntime, book: &Book) -> Result<(), Trouble> {
+    let mut marks = [0; JOBS];
+    reduce(book, &mut marks)?;
+    for (job, mark) in marks.iter().enumerate() {
+        if book.need(job) > 0 {
+            let job = (job & 0xff) as u8;
+            let name = name_of(job);
+            let word = if *mark == HELD { "stuck" } else { "slow" };
+            print!(rt, "  {name}: ")?;
+            row(rt, book, job)?;
+            println!(rt, " ({word})")?;
         }
     }
     Ok(())

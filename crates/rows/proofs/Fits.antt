@@ -1,7 +1,7 @@
 -- Rising targets, and targets that fit.
 use mathlib.Core.Path.{_≡_, refl, sym}
 use mathlib.Core.List.{List, [], _∷_}
-use mathlib.Core.Bool.{true, false}
+use mathlib.Core.Bool.{true, false, not}
 use mathlib.Core.Logic.{⊎-elim}
 use Prim.Native.Nat.{ℕ, zero, suc, _+_, _≤_, _<_}
 use native.Mathlib.Omega.{arith}
@@ -10,6 +10,7 @@ use lib.ListN.{length}
 use Rattle.std.proofs.shelf.Tests.{cases-bool, cases-eq, and-parts, and-from, leb-true, le-leb, true≢false}
 use Rattle.std.proofs.shelf.Ways.{tells}
 use Rattle.std.specs.Holes.{removed}
+use Rattle.std.specs.Options.{isSome}
 use Rattle.std.specs.declared.option.Option.the-variants.{None}
 use Rattle.rows.specs.Waiting.{among}
 use Rattle.rows.specs.Law.{rising, target-fits, targets-fit}
@@ -69,6 +70,14 @@ none-wrong-fits n job low place (t ∷ ts) h =
     ⊎-elim
     (λ (e : target-fits n job low t ≡ true). rw e (none-wrong-fits n job (t + 1) (place + 1) ts (rw e at h)))
     (λ (e : target-fits n job low t ≡ false). let z : _≡_ {A = ℕ} 0 1 = cc (rw e at h) in absurd (omega arith))
+    (cases-bool (target-fits n job low t))
+
+pub fits-where-none-is-wrong : (n job low place : ℕ) (ts : List ℕ) → targets-fit n job low ts ≡ not (isSome (first-wrong n job low place ts))
+fits-where-none-is-wrong n job low place [] = refl
+fits-where-none-is-wrong n job low place (t ∷ ts) =
+    ⊎-elim
+    (λ (e : target-fits n job low t ≡ true). rw e (fits-where-none-is-wrong n job (t + 1) (place + 1) ts))
+    (λ (e : target-fits n job low t ≡ false). rw e)
     (cases-bool (target-fits n job low t))
 
 fits-from-lower : (n job lower low : ℕ) (ts : List ℕ) → lower ≤ low → targets-fit n job low ts ≡ true → targets-fit n job lower ts ≡ true

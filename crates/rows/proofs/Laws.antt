@@ -1,13 +1,14 @@
 -- The row law is kept by all that makes a row, and what it tells.
-use mathlib.Core.Path.{_≡_, refl, subst}
+use mathlib.Core.Path.{_≡_, refl, sym, subst}
 use mathlib.Core.List.{List}
-use mathlib.Core.Bool.{true, false}
+use mathlib.Core.Bool.{Bool, true, false, not, Bool·not-not}
 use mathlib.Core.Logic.{⊎-elim}
 use Prim.Native.Nat.{ℕ, _-_, _<_}
 use native.Mathlib.Omega.{arith}
 use lib.Dec.{eqb, leb}
 use lib.ListN.{length}
 use Rattle.std.proofs.shelf.Tests.{cases-bool, and-parts, and-from, eqb-false}
+use Rattle.std.specs.Options.{isSome}
 use Rattle.std.specs.declared.option.Option.{Option}
 use Rattle.std.specs.declared.option.Option.the-variants.{Some, None}
 use Rattle.std.specs.declared.result.Result.the-variants.{Ok}
@@ -17,7 +18,7 @@ use Rattle.rows.specs.Law.{targets-max, counts-fit, rising, targets-fit, row-f
 use Rattle.rows.specs.Changes.{wrong-counts, first-wrong, without, granted}
 use Rattle.rows.specs.Views.{waiting, plain-fits, placed, requested}
 use Rattle.rows.proofs.Counts.{fit-tells, right-counts-fit, one-less-fits}
-use Rattle.rows.proofs.Fits.{without-is-one-shorter, fitting-rises, none-wrong-fits, without-still-fits, among-fitting-is-below}
+use Rattle.rows.proofs.Fits.{without-is-one-shorter, fitting-rises, none-wrong-fits, fits-where-none-is-wrong, without-still-fits, among-fitting-is-below}
 
 -- The two parts of the law.
 fits-parts : (n job : ℕ) (w : Waiting) → row-fits n job w ≡ true → (counts-fit (w .need) (length (w .targets)) ≡ true) × (targets-fit n job 0 (w .targets) ≡ true)
@@ -29,6 +30,10 @@ fits-from n job w c t = and-from (counts-fit (w .need) (length (w .targets))) (t
 -- An idle row fits.
 pub idle-fits : (n job : ℕ) → row-fits n job idle ≡ true
 idle-fits n job = refl
+
+-- Whether a row fits is found by its counts and a scan of its targets.
+pub fits-where-counts-fit-and-none-is-wrong : (n job need : ℕ) (targets : List ℕ) (r : Bool) → counts-fit need (length targets) ≡ true → isSome (first-wrong n job 0 0 targets) ≡ not r → r ≡ row-fits n job (record { need = need; targets = targets })
+fits-where-counts-fit-and-none-is-wrong n job need targets r c h = rw (c, fits-where-none-is-wrong n job 0 0 targets, h) (sym (Bool·not-not r))
 
 -- The row of a request fits.
 placed-has-no-place : (place : Option ℕ) (v w : Waiting) → placed place v ≡ Ok w → (place ≡ None) × (v ≡ w)

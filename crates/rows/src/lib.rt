@@ -4,6 +4,7 @@ mod plain;
 #[cfg(test)]
 mod tests;
 
+pub use parts::row_fits;
 pub use plain::PlainRow;
 pub use plain::Row;
 pub use plain::RowFault;

@@ -5,7 +5,7 @@ ghost use Prim.Native.Nat.{_-_, _≤_, _<_};
 ghost use lib.ListN.{length, take};
 ghost use Rattle.std.specs.Holes.{removed};
 ghost use Rattle.rows.specs.Waiting.{«target-at»};
-ghost use Rattle.rows.specs.Law.{«targets-max», rising};
+ghost use Rattle.rows.specs.Law.{«targets-max», rising, «row-fits»};
 ghost use Rattle.rows.specs.Changes.{«first-wrong»};
 ghost use Rattle.rows.specs.Places.{Placed};
 
@@ -56,6 +56,17 @@ pub fn first_wrong(jobs: usize, job: usize, targets: &[u8]) -> Option<usize>
         low = target + 1;
     }
     None
+}
+
+// Whether a need and targets are a row of `job`, one of `jobs` jobs, that obeys the row law.
+pub fn row_fits(jobs: usize, job: usize, need: u8, targets: &[u8]) -> bool
+    ensures { λ r. ⌜ r ≡ row-fits jobs job (record { need = need; targets = now (targets .entry) }) ⌝ }
+{
+    let count = targets.len();
+    if count > TARGETS_MAX || need as usize > count || (need == 0 && count > 0) {
+        return false;
+    }
+    first_wrong(jobs, job, targets).is_none()
 }
 
 // The targets at the first places.

@@ -12,7 +12,7 @@ use rows::PlainRow;
 use rows::Row;
 ghost use mathlib.Core.Path.{_≡_};
 ghost use mathlib.Core.Bool.{true, cond};
-ghost use Prim.Native.Nat.{ℕ, _<_};
+ghost use Prim.Native.Nat.{ℕ, _≤_, _<_};
 ghost use lib.ListN.{length};
 ghost use Rattle.rows.specs.Waiting.{idle};
 ghost use Rattle.rows.specs.Law.{«row-fits»};
@@ -20,10 +20,10 @@ ghost use Rattle.rows.specs.Views.{«waiting-of»};
 ghost use Rattle.groups.specs.State.{State, face, full, fresh, written};
 ghost use Rattle.groups.specs.History.{begun};
 ghost use Rattle.book.specs.declared.fault.BookFault.the-variants.{TrailFull};
-ghost use Rattle.book.specs.Calls.{edits, requests, grants, opens, keeps, cancels};
+ghost use Rattle.book.specs.Calls.{edits, requests, grants, opens, keeps, cancels, ends};
 ghost use Rattle.book.specs.Answers.{done, stop, says, after};
 ghost use Rattle.book.specs.History.{Shows, Follows};
-ghost use Rattle.book.specs.Limits.{created};
+ghost use Rattle.book.specs.Limits.{«jobs-max», created};
 ghost use Rattle.book.specs.Views.{«book-state», told, «told-opening», «told-ending», «told-return»};
 
 // The answer to an ending: a ticket that comes back is not the innermost group's.
@@ -32,11 +32,19 @@ fn ended(result: Result<(), Returned>) -> Result<(), RefusedEnding>
 {
     match result {
         Ok(()) => Ok(()),
-        Err(returned) => Err(RefusedEnding {
-            fault: BookFault::NotInnermost,
-            returned,
-        }),
+        Err(returned) => {
+            let fault = BookFault::NotInnermost;
+            Err(RefusedEnding { fault, returned })
+        }
     }
+}
+
+// How many jobs a book is created with: none where more are asked for than there can be.
+fn created(jobs: usize) -> usize
+    ensures value { λ r. ⌜ r ≡ created jobs ⌝ }
+    ensures bound { λ r. ⌜ r ≤ jobs-max ⌝ }
+{
+    if jobs <= JOBS_MAX { jobs } else { 0 }
 }
 
 impl<'a> Book<'a> {
@@ -46,9 +54,8 @@ impl<'a> Book<'a> {
         ensures value { λ r. ⌜ book-state r ≡ fresh (created jobs) idle mark (length (now (memory .entry))) ⌝ }
         ensures shows { λ r. ⌜ Shows (book-state r) begun ⌝ }
     {
-        let jobs = if jobs <= JOBS_MAX { jobs } else { 0 };
         Book {
-            jobs,
+            jobs: created(jobs),
             groups: Groups::new(PlainRow::idle(), mark, memory),
         }
     }
@@ -132,7 +139,7 @@ impl<'a> Book<'a> {
         ensures after { λ _. ⌜ book-state (now (self .exit)) ≡ after (book-state (now (self .entry))) (keeps (ticket .mark) (ticket .depth)) ⌝ }
         ensures shows { λ r. ⌜ Follows (book-state (now (self .entry))) (keeps (ticket .mark) (ticket .depth)) (told-ending r) (book-state (now (self .exit))) ⌝ }
     {
-        ended(self.groups.keep(ticket))
+        self.end(ticket, true)
     }
 
     // Ends the innermost group, and every row is as it was when the group was opened. A ticket that is not the innermost
@@ -142,6 +149,19 @@ impl<'a> Book<'a> {
         ensures after { λ _. ⌜ book-state (now (self .exit)) ≡ after (book-state (now (self .entry))) (cancels (ticket .mark) (ticket .depth)) ⌝ }
         ensures shows { λ r. ⌜ Follows (book-state (now (self .entry))) (cancels (ticket .mark) (ticket .depth)) (told-ending r) (book-state (now (self .exit))) ⌝ }
     {
-        ended(self.groups.cancel(ticket))
+        self.end(ticket, false)
+    }
+
+    // Ends the innermost group, which is kept or cancelled.
+    fn end(&mut self, ticket: Ticket, keeping: bool) -> Result<(), RefusedEnding>
+        ensures value { λ r. ⌜ told-ending r ≡ says (book-state (now (self .entry))) (ends keeping (ticket .mark) (ticket .depth)) ⌝ }
+        ensures after { λ _. ⌜ book-state (now (self .exit)) ≡ after (book-state (now (self .entry))) (ends keeping (ticket .mark) (ticket .depth)) ⌝ }
+        ensures shows { λ r. ⌜ Follows (book-state (now (self .entry))) (ends keeping (ticket .mark) (ticket .depth)) (told-ending r) (book-state (now (self .exit))) ⌝ }
+    {
+        if keeping {
+            ended(self.groups.keep(ticket))
+        } else {
+            ended(self.groups.cancel(ticket))
+        }
     }
 }

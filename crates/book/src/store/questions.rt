@@ -6,10 +6,9 @@ ghost use mathlib.Core.Bool.{true};
 ghost use Prim.Native.Nat.{_≤_};
 ghost use lib.ListN.{length};
 ghost use Rattle.rows.specs.Waiting.{at, among, «target-at»};
-ghost use Rattle.rows.specs.Law.{«row-fits»};
 ghost use Rattle.rows.specs.Views.{«waiting-of»};
 ghost use Rattle.groups.specs.Limits.{«depth-max»};
-ghost use Rattle.groups.specs.Obeys.{«rows-obey»};
+ghost use Rattle.tables.specs.Tables.{lawful};
 ghost use Rattle.book.specs.Limits.{«jobs-max»};
 ghost use Rattle.book.specs.Views.{«book-state»};
 
@@ -18,7 +17,7 @@ impl<'a> Book<'a> {
     pub fn jobs(&self) -> usize
         ensures value { λ r. ⌜ r ≡ length (book-state (now (self .entry)) .rows) ⌝ }
         ensures bound { λ r. ⌜ r ≤ jobs-max ⌝ }
-        ensures lawful { λ r. ⌜ rows-obey (row-fits r) 0 (book-state (now (self .entry)) .rows) ≡ true ⌝ }
+        ensures lawful { λ _. ⌜ lawful (book-state (now (self .entry)) .rows) ≡ true ⌝ }
     {
         self.jobs
     }

@@ -186,7 +186,8 @@ impl Returned {
 
     // Gives up a ticket that no ending wants.
     pub fn give_up(self) {
-        let Returned { ticket } = self;
-        let Ticket { mark: _, depth: _ } = ticket;
+        let Returned {
+            ticket: Ticket { mark: _, depth: _ },
+        } = self;
     }
 }

@@ -5,8 +5,8 @@ use Rattle.std.proofs.shelf.Ways.{tells}
 use Rattle.groups.proofs.Tops.{length-top, pushed-top}
 use Rattle.groups.proofs.starts.Starts.push.Needs as need
 
-pub returns-then-self-ge-DEPTH-MAX : need.returns-then-self-ge-DEPTH-MAX
-returns-then-self-ge-DEPTH-MAX c =
+pub returns-then-full : need.returns-then-full
+returns-then-full c =
     let long = length-top (c .args .self .now .len) (c .args .self .now .places) in
     record { test = grind (arith, tells); after = refl }
 

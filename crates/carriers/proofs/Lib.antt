@@ -1,0 +1,3 @@
+-- The lemmas, by what they are about.
+pub mod Bags
+pub mod Sends

@@ -1,0 +1,4 @@
+-- What the contracts speak of.
+pub mod Faults
+pub mod Meaning
+pub mod Orders
