@@ -18,6 +18,7 @@ ghost use lib.Dec.{ltb};
 ghost use Rattle.std.specs.declared.option.Option.the-variants.{Some, None};
 ghost use Rattle.std.specs.declared.result.Result.the-variants.{Ok, Err};
 ghost use Rattle.containers.specs.Stacks.{«stack-items», «stack-room»};
+ghost use Rattle.containers.specs.Taken.{TookLast};
 ghost use Rattle.groups.specs.Limits.{«row-count», «depth-max», «trail-max»};
 ghost use Rattle.groups.specs.Starts.{«starts-of»};
 ghost use Rattle.groups.specs.State.{State, face, full, innermost, fresh, written, opened, kept, cancelled, unwound, «old-row»};
@@ -142,6 +143,16 @@ impl<'a, P: Copy> Groups<'a, P> {
         self.unwind(start);
     }
 
+    // Takes the newest old row off the trail.
+    fn take_newest(&mut self, old: &mut Old<P>) -> bool
+        ensures test { λ r. ⌜ r ≡ ltb 0 (length (stack-items (now (self .entry) .trail))) ⌝ }
+        ensures items { λ r. ⌜ TookLast r (stack-items (now (self .entry) .trail)) (stack-items (now (self .exit) .trail)) (now (old .entry)) (now (old .exit)) ⌝ }
+        ensures len { λ r. ⌜ length (stack-items (now (self .exit) .trail)) + cond r 1 0 ≡ length (stack-items (now (self .entry) .trail)) ⌝ }
+        ensures same { λ _. ⌜ Beside (now (self .entry)) (now (self .exit)) × (now (self .exit) .rows ≡ now (self .entry) .rows) ⌝ }
+    {
+        self.trail.take(old)
+    }
+
     // Puts the old rows from a start on back, the newest first, and frees their records.
     fn unwind(&mut self, start: usize)
         ensures rows { λ _. ⌜ now (self .exit) .rows ≡ unwound (now (self .entry) .rows) (drop start (stack-items (now (self .entry) .trail))) ⌝ }
@@ -153,7 +164,7 @@ impl<'a, P: Copy> Groups<'a, P> {
             row: read(&self.rows, 0),
         };
         while self.trail.len() > start {
-            let _ = self.trail.take(&mut old);
+            let _ = self.take_newest(&mut old);
             put(&mut self.rows, old.job, old.row);
         }
     }
