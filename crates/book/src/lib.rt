@@ -15,4 +15,4 @@ pub use rows::TARGETS_MAX;
 pub use store::Book;
 pub use store::BookTable;
 pub use store::BookTwoWayTable;
-pub use store::JOBS_MAX;
+pub use tables::JOBS_MAX;

@@ -12,13 +12,10 @@ ghost use mathlib.Core.Bool.{true};
 ghost use lib.ListN.{length};
 ghost use Prim.Native.Nat.{_≤_};
 ghost use Rattle.rows.specs.Views.{«plain-fits»};
-ghost use Rattle.book.specs.Limits.{«jobs-max»};
+ghost use Rattle.tables.specs.Tables.{«jobs-max»};
 ghost use Rattle.groups.specs.Limits.{«row-count»};
 ghost use Rattle.groups.specs.Memory.{Tidy, state};
 ghost use Rattle.groups.specs.Obeys.{«rows-obey», «groups-obey»};
-
-// How many jobs a book has at most.
-pub const JOBS_MAX: usize = 256;
 
 // The rows of the first `jobs` jobs, under groups. Every row and every old row obeys the row law.
 #[derive(Drop)]

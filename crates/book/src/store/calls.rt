@@ -3,13 +3,13 @@ use crate::fault::BookFault;
 use crate::fault::BookFaultFromRowFault;
 use crate::fault::RefusedEnding;
 use crate::store::Book;
-use crate::store::JOBS_MAX;
 use groups::Groups;
 use groups::Old;
 use groups::Returned;
 use groups::Ticket;
 use rows::PlainRow;
 use rows::Row;
+use tables::JOBS_MAX;
 ghost use mathlib.Core.Path.{_≡_};
 ghost use mathlib.Core.Bool.{true, cond};
 ghost use Prim.Native.Nat.{ℕ, _≤_, _<_};
@@ -23,7 +23,8 @@ ghost use Rattle.book.specs.declared.fault.BookFault.the-variants.{TrailFull};
 ghost use Rattle.book.specs.Calls.{edits, requests, grants, opens, keeps, cancels, ends};
 ghost use Rattle.book.specs.Answers.{done, stop, says, after};
 ghost use Rattle.book.specs.History.{Shows, Follows};
-ghost use Rattle.book.specs.Limits.{«jobs-max», created};
+ghost use Rattle.book.specs.Limits.{created};
+ghost use Rattle.tables.specs.Tables.{«jobs-max»};
 ghost use Rattle.book.specs.Views.{«book-state», told, «told-opening», «told-ending», «told-return»};
 
 // The answer to an ending: a ticket that comes back is not the innermost group's.

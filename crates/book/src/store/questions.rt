@@ -8,8 +8,7 @@ ghost use lib.ListN.{length};
 ghost use Rattle.rows.specs.Waiting.{at, among, «target-at»};
 ghost use Rattle.rows.specs.Views.{«waiting-of»};
 ghost use Rattle.groups.specs.Limits.{«depth-max»};
-ghost use Rattle.tables.specs.Tables.{lawful};
-ghost use Rattle.book.specs.Limits.{«jobs-max»};
+ghost use Rattle.tables.specs.Tables.{«jobs-max», lawful};
 ghost use Rattle.book.specs.Views.{«book-state»};
 
 impl<'a> Book<'a> {
