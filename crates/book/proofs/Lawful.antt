@@ -15,21 +15,25 @@ use Rattle.groups.proofs.Obeyed.{written_obeys, kept_obeys, cancelled_obeys}
 use Rattle.groups.proofs.Viewed.{length-unwound, view_written, view_kept, view_cancelled, view_depth, view_used}
 
 -- the facts of the book's ghost fields, as one
-abbrev pub Lawful : ℕ → Groups PlainRow → Type 0
-Lawful n g = (n ≤ 256) × ((length (state g).rows ≡ 256) × (Tidy g × ((rows_obey (plain_fits n) 0 (state g).rows ≡ true) × ((groups_obey (plain_fits n) (state g).groups ≡ true) × Unit {0}))))
+pub record Lawful (n : ℕ) (g : Groups PlainRow) : Type 0 where
+  pub few : n ≤ 256
+  pub whole : length (state g).rows ≡ 256
+  pub tidy : Tidy g
+  pub lawful : rows_obey (plain_fits n) 0 (state g).rows ≡ true
+  pub undoable : groups_obey (plain_fits n) (state g).groups ≡ true
 
 -- those that speak of the state alone
 abbrev Sound : ℕ → State PlainRow → Type 0
 Sound n s = (length s.rows ≡ 256) × Obeys (plain_fits n) s
 
 sound_of : (n : ℕ) (g : Groups PlainRow) → Lawful n g → Sound n (state g)
-sound_of n g l = (l.1.0, (l.1.1.1.0, l.1.1.1.1.0))
+sound_of n g l = (l.whole, (l.lawful, l.undoable))
 
 stepped : (n : ℕ) (g h : Groups PlainRow) (f : State PlainRow → State PlainRow) → Steps g h f → (Sound n (state g) → Sound n (f (state g))) → Lawful n g → Lawful n h
 stepped n g h f st keep l =
-    let t = st l.1.1.0 in
+    let t = st l.tidy in
     let o = subst (Sound n) (sym t.1) (keep (sound_of n g l)) in
-    (l.0, (o.0, (t.0, (o.1.0, (o.1.1, tt)))))
+    record { few = l.few; whole = o.0; tidy = t.0; lawful = o.1.0; undoable = o.1.1 }
 
 length-restored : (rows : List PlainRow) (gs : List (List (Old PlainRow))) → length (restored rows gs) ≡ length rows
 length-restored rows [] = refl
@@ -41,7 +45,7 @@ choose P false a b x y = y
 
 pub write_lawful : (n : ℕ) (g h : Groups PlainRow) (r : Bool) (job : ℕ) (row : PlainRow) → Steps g h (λ s. cond r (written s job row) s) → job < n → plain_fits n job row ≡ true → Lawful n g → Lawful n h
 write_lawful n g h r job row st j fits l =
-    stepped n g h (λ s. cond r (written s job row) s) st (λ o. choose (Sound n) r (written (state g) job row) (state g) (length-set (state g).rows job row ∙ o.0, written_obeys (plain_fits n) (state g) job row (omega (arith, l.0, o.0)) fits o.1) o) l
+    stepped n g h (λ s. cond r (written s job row) s) st (λ o. choose (Sound n) r (written (state g) job row) (state g) (length-set (state g).rows job row ∙ o.0, written_obeys (plain_fits n) (state g) job row (omega (arith, l.few, o.0)) fits o.1) o) l
 
 pub open_lawful : (n : ℕ) (g h : Groups PlainRow) → Steps g h (λ s. cond (ltb (face s).depth 8) (opened s) s) → Lawful n g → Lawful n h
 open_lawful n g h st l =
@@ -74,34 +78,34 @@ cond_view n false s t = refl
 
 module _ (n : ℕ) (g h : Groups PlainRow) (l : Lawful n g) where
   wide : n ≤ length (state g).rows
-  wide = omega (arith, l.0, l.1.0)
+  wide = omega (arith, l.few, l.whole)
 
   pub write_seen : (r : Bool) (job : ℕ) (row : PlainRow) → Steps g h (λ s. cond r (written s job row) s) → job < n → view n waiting (state h) ≡ cond r (written (view n waiting (state g)) job (waiting row)) (view n waiting (state g))
   write_seen r job row st j =
-      ap (view n waiting) (st l.1.1.0).1
+      ap (view n waiting) (st l.tidy).1
       ∙ cond_view n r (written (state g) job row) (state g)
       ∙ ap (λ s. cond r s (view n waiting (state g))) (view_written n waiting (state g) job row wide j)
 
   pub open_seen : Steps g h (λ s. cond (ltb (face s).depth 8) (opened s) s) → view n waiting (state h) ≡ cond (ltb (face (view n waiting (state g))).depth 8) (opened (view n waiting (state g))) (view n waiting (state g))
   open_seen st =
-      ap (view n waiting) (st l.1.1.0).1
+      ap (view n waiting) (st l.tidy).1
       ∙ cond_view n (ltb (face (state g)).depth 8) (opened (state g)) (state g)
       ∙ ap (λ k. cond (ltb k 8) (opened (view n waiting (state g))) (view n waiting (state g))) (sym (depth_seen n (state g)))
 
   pub keep_seen : (m d : ℕ) → Steps g h (λ s. cond (innermost s.mark (face s) m d) (kept s) s) → view n waiting (state h) ≡ cond (innermost (state g).mark (face (view n waiting (state g))) m d) (kept (view n waiting (state g))) (view n waiting (state g))
   keep_seen m d st =
-      ap (view n waiting) (st l.1.1.0).1
+      ap (view n waiting) (st l.tidy).1
       ∙ cond_view n (innermost (state g).mark (face (state g)) m d) (kept (state g)) (state g)
       ∙ ap (λ s. cond (innermost (state g).mark (face (state g)) m d) s (view n waiting (state g))) (view_kept n waiting (state g))
       ∙ ap (λ q. cond q (kept (view n waiting (state g))) (view n waiting (state g))) (sym (innermost_seen n (state g) m d))
 
   pub cancel_seen : (m d : ℕ) → Steps g h (λ s. cond (innermost s.mark (face s) m d) (cancelled s) s) → view n waiting (state h) ≡ cond (innermost (state g).mark (face (view n waiting (state g))) m d) (cancelled (view n waiting (state g))) (view n waiting (state g))
   cancel_seen m d st =
-      ap (view n waiting) (st l.1.1.0).1
+      ap (view n waiting) (st l.tidy).1
       ∙ cond_view n (innermost (state g).mark (face (state g)) m d) (cancelled (state g)) (state g)
       ∙ ap (λ s. cond (innermost (state g).mark (face (state g)) m d) s (view n waiting (state g))) (view_cancelled n waiting (state g) wide)
       ∙ ap (λ q. cond q (cancelled (view n waiting (state g))) (view n waiting (state g))) (sym (innermost_seen n (state g) m d))
 
 -- what a book carries
 pub lawful_of : (b : Book) → Lawful b.jobs b.groups
-lawful_of b = (b.few, (b.whole, (b.tidy, (b.lawful, (b.undoable, tt)))))
+lawful_of b = record { few = b.few; whole = b.whole; tidy = b.tidy; lawful = b.lawful; undoable = b.undoable }

@@ -1,4 +1,6 @@
 // The rules of the book on examples.
+#![tactic(auto)]
+
 #[cfg(test)]
 mod common;
 #[cfg(test)]

@@ -1,4 +1,6 @@
 // Carriers of messages: an interface with a meaning that leaves the order of delivery open, and three orders that keep it.
+#![tactic(auto)]
+
 mod carrier;
 mod draining;
 mod message;

@@ -1,4 +1,6 @@
 // A chart: a table of waits read from bytes, where they lie.
+#![tactic(auto)]
+
 mod bytes;
 mod chart;
 mod fault;

@@ -1,4 +1,6 @@
 // Containers over memory that their user lends, for records of any type that can be copied.
+#![tactic(auto)]
+
 mod queue;
 mod stack;
 

@@ -1,4 +1,6 @@
 // The detection: whether a job is stuck or only slow, told by a run of the exchange over any table and any carrier.
+#![tactic(auto)]
+
 mod detector;
 mod fault;
 mod puts;

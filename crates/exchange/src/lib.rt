@@ -1,4 +1,6 @@
 // The exchange: what each job keeps during a run, the rules by which it reacts to messages, and what holds of every run.
+#![tactic(auto)]
+
 mod laws;
 mod record;
 

@@ -1,4 +1,6 @@
 // Rows of any copyable type, with nested undo: a group of writes is kept, or cancelled as a whole.
+#![tactic(auto)]
+
 mod cells;
 mod starts;
 mod store;

@@ -1,4 +1,6 @@
 // The central reduction: which jobs of a table are stuck.
+#![tactic(auto)]
+
 mod fault;
 mod marks;
 mod passes;

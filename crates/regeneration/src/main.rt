@@ -1,4 +1,6 @@
 // A day of regeneration, worked from beginning to end.
+#![tactic(auto)]
+
 mod edits;
 mod names;
 mod show;

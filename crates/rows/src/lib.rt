@@ -1,4 +1,6 @@
 // A row of the book: how many of its targets a job still needs, and the targets.
+#![tactic(auto)]
+
 mod parts;
 mod plain;
 #[cfg(test)]

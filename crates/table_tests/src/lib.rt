@@ -1,4 +1,6 @@
 // The reduction over books and charts, on tables of cases.
+#![tactic(auto)]
+
 #[cfg(test)]
 mod reductions;
 #[cfg(test)]

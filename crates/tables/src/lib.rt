@@ -1,4 +1,6 @@
 // Tables of waits, read only through what they tell; closed sets and lawful grants.
+#![tactic(auto)]
+
 mod freeing;
 mod table;
 

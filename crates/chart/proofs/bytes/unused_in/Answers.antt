@@ -7,6 +7,6 @@ use Rattle.chart.proofs.bytes.unused_in.Goals as goal
 pub returns : goal.returns
 returns c =
     let row = c.args.row.now in
-    let rest = take_rest row (2 + c.count-in.result) in
+    let rest = take_rest row (2 + c.count_in.result) in
     let again = drop-drop (count_byte row) 2 row in
     cc

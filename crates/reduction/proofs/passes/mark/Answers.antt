@@ -7,9 +7,9 @@ use Rattle.reduction.proofs.passes.mark.Goals as goal
 
 pub loop-queue-smaller : goal.loop-queue-smaller
 loop-queue-smaller g c =
-    let e = c.mark-waiters.ensures in
+    let e = c.mark_waiters.ensures in
     let t = c.loop-queue-test.ensures in
-    omega (arith, t.len, e.grown.queued, e.grown.more, e.marks.len, c.loop-queue.invariant.0.len, count_all (λ n. eqb n loose) c.mark-waiters.new.marks)
+    omega (arith, t.len, e.grown.queued, e.grown.more, e.marks.len, c.loop-queue.invariant.0.len, count_all (λ n. eqb n loose) c.mark_waiters.new.marks)
 
 pub returns : goal.returns
 returns g c =

@@ -9,4 +9,4 @@ pub returns : goal.returns
 returns c =
     let targets = c.args.targets.now in
     let counts : counts_fit c.args.need (length targets) ≡ true = grind (arith, nat_tests) in
-    fits_where_counts_fit_and_none_is_wrong c.args.jobs c.args.job c.args.need targets c.is-none.result counts (sym (ap is_some c.first_wrong.ensures) ∙ c.is-none.ensures)
+    fits_where_counts_fit_and_none_is_wrong c.args.jobs c.args.job c.args.need targets c.is_none.result counts (sym (ap is_some c.first_wrong.ensures) ∙ c.is_none.ensures)

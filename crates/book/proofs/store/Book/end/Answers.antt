@@ -9,15 +9,17 @@ use Rattle.book.proofs.Lawful.{lawful_of, keep_lawful, keep_seen, cancel_lawful,
 use Rattle.book.proofs.Told.{end_told, after_keep, after_cancel}
 use Rattle.book.proofs.store.Book.end.Goals as goal
 
-pub invariant-of-self : goal.invariant-of-self
-invariant-of-self c =
+pub invariant_of-self : goal.invariant_of-self
+invariant_of-self c =
     let b = c.args.self.now in
-    keep_lawful b.jobs b.groups c.keep.new.self c.args.ticket.mark c.args.ticket.depth c.keep.ensures.after (lawful_of b)
+    let l = keep_lawful b.jobs b.groups c.keep.new.self c.args.ticket.mark c.args.ticket.depth c.keep.ensures.after (lawful_of b) in
+    record { few = l.few; whole = l.whole; tidy = l.tidy; lawful = l.lawful; undoable = l.undoable }
 
-pub invariant-of-self-else-keeping : goal.invariant-of-self-else-keeping
-invariant-of-self-else-keeping c =
+pub invariant_of-self-else-keeping : goal.invariant_of-self-else-keeping
+invariant_of-self-else-keeping c =
     let b = c.args.self.now in
-    cancel_lawful b.jobs b.groups c.cancel.new.self c.args.ticket.mark c.args.ticket.depth c.cancel.ensures.after (lawful_of b)
+    let l = cancel_lawful b.jobs b.groups c.cancel.new.self c.args.ticket.mark c.args.ticket.depth c.cancel.ensures.after (lawful_of b) in
+    record { few = l.few; whole = l.whole; tidy = l.tidy; lawful = l.lawful; undoable = l.undoable }
 
 pub returns-then-keeping : goal.returns-then-keeping
 returns-then-keeping c =

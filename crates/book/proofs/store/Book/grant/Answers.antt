@@ -5,5 +5,5 @@ use Rattle.book.proofs.store.Book.grant.Goals as goal
 
 pub returns : goal.returns
 returns c =
-    let r = c.make-grant.ensures in
+    let r = c.make_grant.ensures in
     record { value = r.value; after = r.after; shows = follows (book_state c.args.self.now) (edits (grants c.args.granter c.args.waiter)) _ _ r.value r.after }

@@ -30,11 +30,11 @@ returns-then-need-gt0 c =
     let v = is_stuck (book_state b) b.jobs (jobs_seen b) c.args.granter c.args.waiter c.if-granter-self.false c.if-waiter-self.false (omega arith) in
     record { value = v; after = after_stopped (book_state b) (grants c.args.granter c.args.waiter) GranterBlocked v }
 
-pub returns-in-default : goal.returns-in-default
-returns-in-default c =
+pub returns-in_default : goal.returns-in_default
+returns-in_default c =
     let b = c.args.self.now in
     let needs = c.need.ensures ∙ ap (λ (w : Waiting). w.need) c.row.ensures in
-    let none = sym (ap (λ (w : Waiting). among c.args.granter w.targets) c.row-2.ensures) ∙ grant_none c.args.granter (waiting_of c.row-2.result) c.in-default.ensures in
+    let none = sym (ap (λ (w : Waiting). among c.args.granter w.targets) c.row-2.ensures) ∙ grant_none c.args.granter (waiting_of c.row-2.result) c.in_default.ensures in
     let v = no_wait (book_state b) b.jobs (jobs_seen b) c.args.granter c.args.waiter c.if-granter-self.false c.if-waiter-self.false (omega arith) none in
     record { value = v; after = after_stopped (book_state b) (grants c.args.granter c.args.waiter) NoSuchWait v }
 

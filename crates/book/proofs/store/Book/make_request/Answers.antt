@@ -26,23 +26,23 @@ returns-then-need-gt0 c =
     let v = is_blocked (book_state b) b.jobs (jobs_seen b) c.args.job c.args.need c.args.targets.now c.if-job-self.false (omega arith) in
     record { value = v; after = after_stopped (book_state b) (requests c.args.job c.args.need c.args.targets.now) Blocked v }
 
-pub returns-in-err-row : goal.returns-in-err-row
-returns-in-err-row c =
+pub returns-in_err-row : goal.returns-in_err-row
+returns-in_err-row c =
     let b = c.args.self.now in
-    let e = c.in-err-row.field-0.0 in
+    let e = c.in_err-row.field-0.0 in
     let needs = c.need.ensures ∙ ap (λ (w : Waiting). w.need) c.row.ensures in
-    let v = no_row (book_state b) b.jobs (jobs_seen b) c.args.job c.args.need c.args.targets.now c.if-job-self.false (omega arith) e (sym c.in-err-row.ensures) in
-    record { value = carried_told c.from-residual.result e c.from-residual.ensures.1 ∙ v; after = after_stopped (book_state b) (requests c.args.job c.args.need c.args.targets.now) (of_row e) v }
+    let v = no_row (book_state b) b.jobs (jobs_seen b) c.args.job c.args.need c.args.targets.now c.if-job-self.false (omega arith) e (sym c.in_err-row.ensures) in
+    record { value = carried_told c.from_residual.result e c.from_residual.ensures.1 ∙ v; after = after_stopped (book_state b) (requests c.args.job c.args.need c.args.targets.now) (of_row e) v }
 
 pub write-requires : goal.write-requires
 write-requires c =
-    record { job = c.if-job-self.false; lawful = request_fits c.args.self.now.jobs c.args.job c.args.need c.args.targets.now (waiting_of c.in-ok-row.row) (sym c.in-ok-row.ensures) }
+    record { job = c.if-job-self.false; lawful = request_fits c.args.self.now.jobs c.args.job c.args.need c.args.targets.now (waiting_of c.in_ok-row.row) (sym c.in_ok-row.ensures) }
 
 pub returns : goal.returns
 returns c =
     let b = c.args.self.now in
-    let w = waiting_of c.in-ok-row.row in
-    let made = sym c.in-ok-row.ensures in
+    let w = waiting_of c.in_ok-row.row in
+    let made = sym c.in_ok-row.ensures in
     let needs = c.need.ensures ∙ ap (λ (w : Waiting). w.need) c.row.ensures in
     let passes = row_made (book_state b) b.jobs (jobs_seen b) c.args.job c.args.need c.args.targets.now c.if-job-self.false (omega arith) w made in
     let is = row_is (book_state b) b.jobs (jobs_seen b) c.args.job c.args.need c.args.targets.now w made in

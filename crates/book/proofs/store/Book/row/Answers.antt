@@ -4,7 +4,7 @@ use Rattle.rows.specs.Views.{waiting}
 use Rattle.groups.specs.Memory.{state}
 use Rattle.book.proofs.Seen.{at_seen, at_beyond, sound_at}
 use Rattle.book.proofs.store.Book.row.Goals as goal
-use Rattle.book.proofs.store.Book.row.Goals.{then-job-self+in-default, else-job-self}
+use Rattle.book.proofs.store.Book.row.Goals.{then-job-self+in_default, else-job-self}
 
 pub returns-in-Some : goal.returns-in-Some
 returns-in-Some c =
@@ -15,6 +15,6 @@ pub returns : goal.returns
 returns c =
     let b = c.args.self.now in
     elim c.if-job-self.branch [
-      | then-job-self+in-default w ↦ absurd (true≢false (sym (sound_at b.jobs (state b.groups).rows c.args.job w.row.result w.row.ensures (omega (arith, b.few, b.whole, w.if-job-self.true)) b.lawful) ∙ w.in-default.ensures))
+      | then-job-self+in_default w ↦ absurd (true≢false (sym (sound_at b.jobs (state b.groups).rows c.args.job w.row.result w.row.ensures (omega (arith, b.few, b.whole, w.if-job-self.true)) b.lawful) ∙ w.in_default.ensures))
       | else-job-self w ↦ c.idle.ensures ∙ sym (at_beyond b.jobs (state b.groups).rows c.args.job (omega (arith, b.few, b.whole)) w.if-job-self.false)
     ]

@@ -9,12 +9,13 @@ use Rattle.book.proofs.Lawful.{lawful_of, write_lawful, write_seen, full_seen}
 use Rattle.book.proofs.Told.{not_true, not_false}
 use Rattle.book.proofs.store.Book.write.Goals as goal
 
-pub invariant-of-self : goal.invariant-of-self
-invariant-of-self c =
+pub invariant_of-self : goal.invariant_of-self
+invariant_of-self c =
     let b = c.args.self.now in
     let row = c.plain.result in
     let fits : plain_fits b.jobs c.args.job row ≡ true = sound_fits b.jobs c.args.job row c.plain.ensures.lawful (ap (λ p. row_fits b.jobs c.args.job (waiting p)) c.plain.ensures.value ∙ c.requires.lawful) in
-    write_lawful b.jobs b.groups c.write.new.self c.write.result c.args.job row c.write.ensures.after c.requires.job fits (lawful_of b)
+    let l = write_lawful b.jobs b.groups c.write.new.self c.write.result c.args.job row c.write.ensures.after c.requires.job fits (lawful_of b) in
+    record { few = l.few; whole = l.whole; tidy = l.tidy; lawful = l.lawful; undoable = l.undoable }
 
 pub returns-then-write : goal.returns-then-write
 returns-then-write c =

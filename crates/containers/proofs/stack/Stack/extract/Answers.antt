@@ -10,6 +10,6 @@ returns g c =
     let len = c.len-len in
     let less : c.args.place < len.result = omega arith in
     let split =
-    turned_by_one_and_back s.len len.result c.args.place s.cells.now c.rotate-left.new.self
-    c.index-self-place.result len.ensures.value less c.rotate-left.ensures.after in
+    turned_by_one_and_back s.len len.result c.args.place s.cells.now c.rotate_left.new.self
+    c.index-self-place.result len.ensures.value less c.rotate_left.ensures.after in
     record { items = split; len = sym (ap length split ∙ length-with_one_more _ _ _); capacity = search (rules, places) }

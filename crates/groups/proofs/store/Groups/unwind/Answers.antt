@@ -9,8 +9,8 @@ pub loop-old-preserved : goal.loop-old-preserved
 loop-old-preserved g c =
     let v = c.loop-old.self in
     let i = c.loop-old.invariant in
-    let t = c.take-newest.ensures in
-    let b = put_back v.rows c.put.new.rows (stack_items v.trail) (stack_items c.take-newest.new.self.trail) _ c.take-newest.new.old c.args.start c.take-newest.result t.test t.items (omega arith) (c.put.ensures ∙ ap (λ r. set r c.take-newest.new.old.job c.take-newest.new.old.row) t.same.1) in
+    let t = c.take_newest.ensures in
+    let b = put_back v.rows c.put.new.rows (stack_items v.trail) (stack_items c.take_newest.new.self.trail) _ c.take_newest.new.old c.args.start c.take_newest.result t.test t.items (omega arith) (c.put.ensures ∙ ap (λ r. set r c.take_newest.new.old.job c.take_newest.new.old.row) t.same.1) in
     (b.0 ∙ i.0, b.1 ∙ i.1, (t.same.0.0 ∙ i.2.0, t.same.0.1 ∙ i.2.1, t.same.0.2 ∙ i.2.2))
 
 pub returns : goal.returns

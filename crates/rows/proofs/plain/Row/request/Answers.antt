@@ -5,8 +5,8 @@ use Rattle.rows.specs.Changes.{wrong_counts}
 use Rattle.rows.proofs.Stored.{request_stores_sound}
 use Rattle.rows.proofs.plain.Row.request.Goals as goal
 
-pub invariant-of-result : goal.invariant-of-result
-invariant-of-result c =
+pub invariant_of-result : goal.invariant_of-result
+invariant_of-result c =
     let targets = c.args.targets.now in
     let counts : wrong_counts c.args.need (length targets) ≡ false = grind (arith, nat_tests) in
-    (request_stores_sound _ _ c.args.need targets c.padded.result counts (sym c.in-default.ensures) c.padded.ensures, tt)
+    record { lawful = request_stores_sound _ _ c.args.need targets c.padded.result counts (sym c.in_default.ensures) c.padded.ensures }

@@ -3,7 +3,7 @@ use Rattle.std.proofs.Common.{arith}
 use Rattle.rows.specs.Waiting.{at}
 use Rattle.tables.proofs.Targets.{no_target_is_past, among_where_a_target_is_the_job, among_goes_past_another_target, not_among_past_the_last}
 use Rattle.tables.proofs.table.Table.waits_for.Goals as goal
-use Rattle.tables.proofs.table.Table.waits_for.Goals.{in-Some+else-target-job, in-default}
+use Rattle.tables.proofs.table.Table.waits_for.Goals.{in-Some+else-target-job, in_default}
 
 pub returns-then-target-job : goal.returns-then-target-job
 returns-then-target-job g c =
@@ -16,7 +16,7 @@ loop-place-preserved g c =
     elim c.match-target.branch [
       | in-Some+else-target-job w ↦
           among_goes_past_another_target c.args.job targets c.loop-place.place w.in-Some.target w.in-Some.ensures w.if-target-job.false c.loop-place.invariant
-      | in-default w ↦ absurd (omega (arith, no_target_is_past targets c.loop-place.place w.in-default.ensures, c.target-count-place-end.ensures, c.loop-place-test.true))
+      | in_default w ↦ absurd (omega (arith, no_target_is_past targets c.loop-place.place w.in_default.ensures, c.target_count-place-end.ensures, c.loop-place-test.true))
     ]
 
 pub returns : goal.returns

@@ -6,15 +6,15 @@ use Rattle.tables.proofs.table.TwoWayTable.next_waiter.Goals as goal
 pub loop-waiter-init : goal.loop-waiter-init
 loop-waiter-init g c = first_waiter_of_the_rows_left c.args.from c.args.job (g.Self.Table.rows c.args.self.now)
 
-pub returns-then-waits-for : goal.returns-then-waits-for
-returns-then-waits-for g c =
+pub returns-then-waits_for : goal.returns-then-waits_for
+returns-then-waits_for g c =
     let rows = g.Self.Table.rows c.args.self.now in
-    first_waiter_is_a_row_that_waits c.args.from c.loop-waiter.waiter c.args.job rows (omega arith) c.if-waits-for.ensures c.loop-waiter.invariant
+    first_waiter_is_a_row_that_waits c.args.from c.loop-waiter.waiter c.args.job rows (omega arith) c.if-waits_for.ensures c.loop-waiter.invariant
 
 pub loop-waiter-preserved : goal.loop-waiter-preserved
 loop-waiter-preserved g c =
     let rows = g.Self.Table.rows c.args.self.now in
-    first_waiter_is_past_another_row c.args.from c.loop-waiter.waiter c.args.job rows (omega arith) c.if-waits-for.ensures c.loop-waiter.invariant
+    first_waiter_is_past_another_row c.args.from c.loop-waiter.waiter c.args.job rows (omega arith) c.if-waits_for.ensures c.loop-waiter.invariant
 
 pub returns : goal.returns
 returns g c =

@@ -7,7 +7,7 @@ use Rattle.chart.proofs.chart.reads.ChartTable.need.Goals as goal
 pub returns-then-job-self : goal.returns-then-job-self
 returns-then-job-self c =
     let chart = c.args.self.now in
-    c.need-in.ensures ∙ ap (λ (w : Waiting). w.need) (row_is_of_its_bytes chart.jobs chart.bytes.now c.job-bytes.result.now c.args.job c.if-job-self.true c.job-bytes.ensures.value)
+    c.need_in.ensures ∙ ap (λ (w : Waiting). w.need) (row_is_of_its_bytes chart.jobs chart.bytes.now c.job_bytes.result.now c.args.job c.if-job-self.true c.job_bytes.ensures.value)
 
 pub returns-else-job-self : goal.returns-else-job-self
 returns-else-job-self c =

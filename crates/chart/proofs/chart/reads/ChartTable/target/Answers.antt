@@ -7,10 +7,10 @@ use Rattle.chart.proofs.chart.reads.ChartTable.target.Goals as goal
 
 pub returns-then-place-targets : goal.returns-then-place-targets
 returns-then-place-targets c =
-    let targets = c.targets-of-targets.result.now in
-    sym (target_within_is_some targets c.args.place c.if-place-targets.true) ∙ ap (λ (ts : List ℕ). target_at ts c.args.place) c.targets-of-targets.ensures
+    let targets = c.targets_of-targets.result.now in
+    sym (target_within_is_some targets c.args.place c.if-place-targets.true) ∙ ap (λ (ts : List ℕ). target_at ts c.args.place) c.targets_of-targets.ensures
 
 pub returns-else-place-targets : goal.returns-else-place-targets
 returns-else-place-targets c =
-    let targets = c.targets-of-targets.result.now in
-    sym (target_past_is_none targets c.args.place c.if-place-targets.false) ∙ ap (λ (ts : List ℕ). target_at ts c.args.place) c.targets-of-targets.ensures
+    let targets = c.targets_of-targets.result.now in
+    sym (target_past_is_none targets c.args.place c.if-place-targets.false) ∙ ap (λ (ts : List ℕ). target_at ts c.args.place) c.targets_of-targets.ensures
