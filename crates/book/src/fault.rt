@@ -4,7 +4,7 @@ mod tells;
 use groups::Returned;
 
 // The refusals of the book's calls; docs/RULES.md has their numbers and the order of the checks.
-#[derive(Clone, Copy, PartialEq, Eq)]
+#[derive(Clone, Copy, PartialEq, Eq, Debug)]
 pub enum BookFault {
     NoSuchJob,
     Blocked,

@@ -1,7 +1,7 @@
 // The book's data, with its law.
 mod calls;
 mod questions;
-mod tables;
+mod reads;
 
 ghost use Rattle.std.specs.Prelude.{◌≡◌, ◌≤◌, true, length};
 ghost use Rattle.rows.specs.Views.{plain_fits};

@@ -2,7 +2,7 @@
 mod tells;
 
 // There are fewer bytes than jobs.
-#[derive(Clone, Copy, PartialEq, Eq)]
+#[derive(Clone, Copy, PartialEq, Eq, Debug)]
 pub enum ReductionFault {
     TooShort,
 }

@@ -4,7 +4,7 @@ use reduction::ReductionFault;
 use std::io;
 
 // Nothing can be printed, or the book or the reduction refuses a call.
-#[derive(Drop)]
+#[derive(Debug, Drop)]
 pub enum Trouble {
     Output(io::Error),
     Refused(BookFault),

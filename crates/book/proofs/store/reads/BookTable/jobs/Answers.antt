@@ -1,6 +1,6 @@
 use Rattle.std.proofs.Common.{sym}
 use Rattle.book.proofs.Seen.{jobs_seen, lawful_seen}
-use Rattle.book.proofs.store.tables.BookTable.jobs.Goals as goal
+use Rattle.book.proofs.store.reads.BookTable.jobs.Goals as goal
 
 pub returns : goal.returns
 returns c =
