@@ -1,8 +1,8 @@
 -- A call that answers and changes the book by the rules follows every history that the book shows.
-use Rattle.std.proofs.Common.{◌≡◌, ℕ, Bool, true, false, cond, List, [], ◌∷◌, length, set, replicate, sym, refl, ap, ◌∙◌, subst}
+use Rattle.std.proofs.Common.{◌≡◌, ℕ, Bool, true, false, cond, List, [], ◌∷◌, length, replicate, sym, refl, ap, ◌∙◌, subst}
 use Rattle.std.proofs.lemmas.List.{length-set, length-replicate}
 use Rattle.rows.specs.Waiting.{Waiting, idle}
-use Rattle.groups.specs.State.{State, Face, face, restored, fresh}
+use Rattle.groups.specs.State.{State, restored, fresh}
 use Rattle.groups.specs.History.{History, begun}
 use Rattle.groups.specs.Shows.{ShowsFrom}
 use Rattle.groups.specs.declared.store.Old.{Old}
@@ -10,7 +10,7 @@ use Rattle.groups.proofs.Shown.{shows_face, write_shows, open_shows, keep_shows,
 use Rattle.groups.proofs.Viewed.{length-unwound}
 use Rattle.book.specs.Calls.{Edit, Call, edits, opens, keeps, cancels, job_of, next_row, changed}
 use Rattle.book.specs.Answers.{Answer, accepted, answer, says, after}
-use Rattle.book.specs.History.{Terms, face_of, answers, counted, fed, terms, Shows, Follows}
+use Rattle.book.specs.History.{answers, counted, fed, terms, Shows, Follows}
 
 length-restored : (rows : List Waiting) (gs : List (List (Old Waiting))) → length (restored rows gs) ≡ length rows
 length-restored rows [] = refl

@@ -1,8 +1,7 @@
 -- What the book's type carries, kept by every call; and what each call does to the state that the book shows.
-use Rattle.std.proofs.Common.{◌≡◌, ℕ, ◌+◌, ◌<◌, ◌≤◌, Bool, true, false, cond, not, ◌&&◌, eqb, ltb, leb, List, [], ◌∷◌, length, sym, refl, ap, ◌∙◌, subst, arith}
+use Rattle.std.proofs.Common.{◌≡◌, ℕ, ◌<◌, ◌≤◌, Bool, true, false, cond, ◌&&◌, eqb, ltb, List, [], ◌∷◌, length, sym, refl, ap, ◌∙◌, subst, arith}
 use Rattle.std.proofs.lemmas.List.{length-set}
 use Rattle.rows.specs.declared.plain.PlainRow.{PlainRow}
-use Rattle.rows.specs.Waiting.{Waiting}
 use Rattle.rows.specs.Views.{waiting, plain_fits}
 use Rattle.groups.specs.declared.store.Groups.{Groups}
 use Rattle.groups.specs.declared.store.Old.{Old}

@@ -1,17 +1,14 @@
 -- A group around one edit: cancelled, it leaves the book as it was; kept, it leaves what the edit alone does.
-use Rattle.std.proofs.Common.{◌≡◌, ℕ, ◌+◌, ◌<◌, Bool, true, false, cond, ◌&&◌, eqb, ltb, List, [], ◌∷◌, ◌++◌, length, get_or, set, Ok, Err, sym, refl, ap, ◌∙◌, append-nil, arith}
+use Rattle.std.proofs.Common.{◌≡◌, ℕ, ◌+◌, Bool, true, false, cond, eqb, ltb, List, [], ◌∷◌, sym, refl, ap, ◌∙◌, append-nil, arith}
 use Rattle.std.proofs.lemmas.List.{set-set, set-get_or}
 use Rattle.std.proofs.lemmas.Bool.{eq-eqb, lt-ltb}
-use Rattle.std.proofs.lemmas.Bool.Decides.{nat_tests}
 use Rattle.rows.specs.Waiting.{Waiting}
-use Rattle.groups.specs.declared.store.Old.{Old}
 use Rattle.groups.specs.declared.store.Ticket.{Ticket}
-use Rattle.groups.specs.State.{State, Face, face, innermost, noted, merged, old_row, written, opened, kept, cancelled}
+use Rattle.groups.specs.State.{State, face, innermost, noted, merged, old_row, opened, kept, cancelled}
 use Rattle.groups.proofs.Stepped.{same_state}
 use Rattle.book.specs.declared.fault.BookFault.TheVariants.{TooDeep}
 use Rattle.book.specs.Calls.{Edit, edits, opens, keeps, cancels, job_of, next_row, changed}
 use Rattle.book.specs.Answers.{Answer, done, ticket, returned, stop, accepted, says, after}
-use Rattle.book.specs.Views.{told_opening}
 
 -- what an opening that gives a ticket says of it, and does
 pub ticket_given : (s : State Waiting) (t : Ticket) → ticket t.mark t.depth ≡ says s opens → (t.mark ≡ s.mark) × (t.depth ≡ (face s).depth + 1) × (after s opens ≡ opened s)

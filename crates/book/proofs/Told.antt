@@ -1,5 +1,5 @@
 -- Answers and states by the rules, from the ways that the program takes.
-use Rattle.std.proofs.Common.{◌≡◌, ℕ, ◌+◌, ◌<◌, ◌≤◌, Bool, true, false, cond, not, ◌&&◌, ◌||◌, eqb, ltb, leb, ◌⊎◌, List, length, IsErrAnd, Some, None, Ok, Err, Option, Result, sym, refl, ap, ◌∙◌, inl, inr, arith}
+use Rattle.std.proofs.Common.{◌≡◌, ℕ, ◌+◌, ◌<◌, ◌≤◌, Bool, true, false, cond, not, ◌||◌, ltb, leb, ◌⊎◌, List, length, IsErrAnd, Some, None, Ok, Err, Option, Result, sym, refl, ap, ◌∙◌, inl, inr, arith}
 use Rattle.std.proofs.lemmas.Bool.{le-leb, lt-leb, lt-ltb, le-ltb}
 use Rattle.std.proofs.lemmas.Bool.Decides.{nat_tests}
 use Rattle.std.specs.Option.{ok_or}
@@ -10,13 +10,12 @@ use Rattle.rows.specs.Changes.{wrong_counts, first_wrong, granted}
 use Rattle.rows.specs.Views.{placed, requested, granted_by}
 use Rattle.groups.specs.declared.store.Ticket.{Ticket}
 use Rattle.groups.specs.declared.store.Returned.{Returned}
-use Rattle.groups.specs.State.{State, Face, face, full, innermost, written, opened, kept, cancelled}
-use Rattle.book.specs.declared.store.Book.{Book}
+use Rattle.groups.specs.State.{State, face, full, innermost, written, opened, kept, cancelled}
 use Rattle.book.specs.declared.fault.BookFault.{BookFault}
-use Rattle.book.specs.declared.fault.BookFault.TheVariants.{NoSuchJob, Blocked, WrongCounts, WrongTarget, TrailFull, GranterBlocked, NoSuchWait, TooDeep, NotInnermost}
+use Rattle.book.specs.declared.fault.BookFault.TheVariants.{NoSuchJob, Blocked, WrongCounts, TrailFull, GranterBlocked, NoSuchWait, TooDeep, NotInnermost}
 use Rattle.book.specs.Faults.{number, of_row}
 use Rattle.book.specs.Calls.{Edit, requests, grants, edits, opens, keeps, cancels, job_of, next_row, changed}
-use Rattle.book.specs.Answers.{Answer, done, ticket, stopped, returned, stop, stop_at, accepted, edit_answer, ending_answer, says, after}
+use Rattle.book.specs.Answers.{Answer, done, ticket, returned, stop, stop_at, accepted, says, after}
 use Rattle.book.specs.Views.{told, told_opening, told_return}
 
 -- ---- groups

@@ -1,5 +1,5 @@
 -- What a call answers, by the rows, the number of open groups and what these hold; refusals in the order of their checks.
-use Rattle.std.specs.Prelude.{ℕ, ◌+◌, Bool, true, false, cond, not, ◌||◌, List, length, Some, None, Option, nat_le, nat_lt}
+use Rattle.std.specs.Prelude.{ℕ, ◌+◌, Bool, true, false, cond, not, ◌||◌, length, Some, None, Option, nat_le, nat_lt}
 use Rattle.rows.specs.Waiting.{Waiting, at, among}
 use Rattle.rows.specs.Changes.{wrong_counts, first_wrong}
 use Rattle.groups.specs.State.{State, Face, face, full, innermost}

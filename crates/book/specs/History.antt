@@ -1,5 +1,5 @@
 -- The history of a book: the calls that still count, and nothing of the book itself.
-use Rattle.std.specs.Prelude.{◌≡◌, ℕ, cond, List, length, replicate}
+use Rattle.std.specs.Prelude.{◌≡◌, ℕ, cond, length, replicate}
 use Rattle.rows.specs.Waiting.{Waiting, idle}
 use Rattle.groups.specs.State.{State, Face}
 use Rattle.groups.specs.History.{History, join, nest, merge, forget, history_face}

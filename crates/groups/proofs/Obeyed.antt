@@ -1,7 +1,6 @@
 -- Every call keeps a law of rows.
-use Rattle.std.proofs.Common.{◌≡◌, ℕ, zero, suc, ◌+◌, ◌<◌, ◌≤◌, Bool, true, false, cond, ◌&&◌, List, [], ◌∷◌, ◌++◌, length, get_or, set, replicate, sym, refl, ap, ◌∙◌, subst, arith}
+use Rattle.std.proofs.Common.{◌≡◌, ℕ, zero, suc, ◌+◌, ◌<◌, Bool, true, List, [], ◌∷◌, ◌++◌, length, get_or, set, replicate, refl, subst, arith}
 use Rattle.std.proofs.lemmas.Bool.{and_from, and_parts}
-use Rattle.std.proofs.lemmas.Bool.Decides.{nat_tests}
 use Rattle.groups.specs.declared.store.Old.{Old}
 use Rattle.groups.specs.State.{State, old_row, noted, merged, unwound, restored, outside, fresh, written, opened, kept, cancelled}
 use Rattle.groups.specs.Obeys.{rows_obey, olds_obey, groups_obey, Obeys}

@@ -1,6 +1,6 @@
 -- From what a method does to the memory to what it does to the state.
-use Rattle.std.proofs.Common.{◌≡◌, ℕ, ◌+◌, ◌<◌, ◌≤◌, min, Bool, true, false, cond, not, ◌&&◌, eqb, ltb, leb, List, [], ◌∷◌, ◌++◌, length, take, drop, set, Some, None, Option, sym, refl, ap, ◌∙◌, subst, arith}
-use Rattle.std.proofs.lemmas.List.{drop-append-le, take-append-le, length_push, drop_all, take_all}
+use Rattle.std.proofs.Common.{◌≡◌, ℕ, ◌+◌, ◌<◌, ◌≤◌, min, Bool, true, false, ◌&&◌, ltb, leb, List, [], ◌∷◌, ◌++◌, length, take, drop, set, Some, Option, sym, refl, ap, ◌∙◌, subst, arith}
+use Rattle.std.proofs.lemmas.List.{drop-append-le, take-append-le, length_push}
 use Rattle.std.proofs.lemmas.Bool.Decides.{nat_tests}
 use Rattle.containers.specs.Stacks.{stack_items, stack_room}
 use Rattle.containers.specs.Taken.{TookLast}
@@ -8,7 +8,7 @@ use Rattle.groups.specs.declared.store.Old.{Old}
 use Rattle.groups.specs.declared.store.Groups.{Groups}
 use Rattle.groups.specs.declared.store.Ticket.{Ticket}
 use Rattle.groups.specs.Starts.{starts_of, Popped}
-use Rattle.groups.specs.State.{State, Face, face, full, old_row, noted, merged, unwound, restored, outside, written, opened, kept, cancelled}
+use Rattle.groups.specs.State.{State, face, full, old_row, unwound, written, opened, kept, cancelled}
 use Rattle.groups.specs.Limits.{trail_max}
 use Rattle.groups.specs.Memory.{parts, tidy, Tidy, state, Steps, Beside}
 use Rattle.groups.proofs.Parts.{length_parts, total_parts, parts_noted, parts_outside, parts_opened, parts_kept, parts_emptied, parts_cancelled}

@@ -1,11 +1,11 @@
 -- Each call does the same to a state and to what is seen of it.
-use Rattle.std.proofs.Common.{◌≡◌, ℕ, zero, suc, ◌+◌, ◌<◌, ◌≤◌, min, ◌⊎◌, List, [], ◌∷◌, ◌++◌, map, length, get_or, take, set, replicate, sym, refl, ap, ◌∙◌, inl, inr, arith}
+use Rattle.std.proofs.Common.{◌≡◌, ℕ, zero, suc, ◌+◌, ◌<◌, ◌≤◌, List, [], ◌∷◌, map, length, take, set, replicate, sym, refl, ap, ◌∙◌, inl, inr, arith}
 use lib.ListN.{get_or-map}
 use lib.Seq.{take-set-lt}
 use Rattle.std.proofs.lemmas.List.{map-set, map-append, length-map, length-set, length-take-le, get_or-take, take-set-le, set_past, take-replicate}
 use Rattle.std.proofs.lemmas.Bool.{cases_lt}
 use Rattle.groups.specs.declared.store.Old.{Old}
-use Rattle.groups.specs.State.{State, Face, face, total, old_row, noted, merged, unwound, restored, outside, fresh, written, opened, kept, cancelled}
+use Rattle.groups.specs.State.{State, face, total, old_row, noted, merged, unwound, restored, outside, fresh, written, opened, kept, cancelled}
 use Rattle.groups.specs.Views.{old_view, view}
 use Rattle.groups.proofs.Stepped.{same_state}
 

@@ -1,7 +1,6 @@
 -- How the memory of groups stands for their state.
 use Rattle.std.specs.Prelude.{◌≡◌, ℕ, min, Bool, true, ◌&&◌, List, [], ◌∷◌, length, take, drop, ◌==◌, nat_le}
 use Rattle.containers.specs.Stacks.{stack_items, stack_room}
-use Rattle.groups.specs.declared.store.Old.{Old}
 use Rattle.groups.specs.declared.store.Groups.{Groups}
 use Rattle.groups.specs.Starts.{starts_of}
 use Rattle.groups.specs.State.{State}

@@ -1,5 +1,5 @@
 -- A state seen through its rows' meaning.
-use Rattle.std.specs.Prelude.{ℕ, List, map, take}
+use Rattle.std.specs.Prelude.{ℕ, map, take}
 use Rattle.groups.specs.declared.store.Old.{Old}
 use Rattle.groups.specs.State.{State}
 

@@ -1,13 +1,13 @@
 -- What marking a job keeps.
-use Rattle.std.proofs.Common.{◌≡◌, ℕ, zero, suc, ◌+◌, ◌-◌, ◌*◌, ◌<◌, ◌≤◌, Bool, true, false, cond, not, ◌&&◌, ◌||◌, eqb, ltb, leb, ◌⊎◌, ◌↔◌, List, [], ◌∷◌, ◌++◌, length, get_or, set, replicate, sym, refl, ap, ◌∙◌, subst, inl, inr, arith}
+use Rattle.std.proofs.Common.{◌≡◌, ℕ, zero, suc, ◌+◌, ◌<◌, ◌≤◌, Bool, true, false, cond, ◌||◌, eqb, leb, ◌⊎◌, List, [], ◌∷◌, ◌++◌, length, get_or, set, replicate, sym, refl, ap, ◌∙◌, subst, inl, inr, arith}
 use Rattle.std.proofs.lemmas.List.{length-set, length_push, length-replicate, get_or-set_same, get_or-set_other, get_or_past, get_or-replicate, get_or_default}
 use Rattle.std.proofs.lemmas.Bool.{cases_eq, cases_lt, cases_Bool, true≢false, eq-eqb, ne_eqb, eqb-true, and_parts}
 use Rattle.std.proofs.lemmas.Bool.Decides.{nat_tests}
-use Rattle.rows.specs.Waiting.{Waiting, idle, at, among}
+use Rattle.rows.specs.Waiting.{Waiting, at, among}
 use Rattle.tables.specs.Closed.{count, Closed, Loosened}
 use Rattle.tables.proofs.Grants.{closed_at}
 use Rattle.reduction.specs.Marks.{loose, held, marked}
-use Rattle.reduction.specs.Work.{loose_count, done, Marks, ActiveBelow, SettledIn, Settled, Grown, Decided, next_is}
+use Rattle.reduction.specs.Work.{done, Marks, ActiveBelow, SettledIn, Settled, Grown, Decided, next_is}
 
 -- ---- counts
 

@@ -1,12 +1,12 @@
 -- From the marks to what the reduction promises.
-use Rattle.std.proofs.Common.{◌≡◌, ℕ, ◌<◌, ◌≤◌, Bool, true, false, cond, eqb, ◌⊎◌, ◌↔◌, List, [], ◌∷◌, ◌++◌, length, get_or, drop, sym, refl, ap, ◌∙◌, subst, inl, inr, arith, length-append}
+use Rattle.std.proofs.Common.{◌≡◌, ℕ, ◌<◌, ◌⊎◌, List, ◌++◌, length, get_or, drop, sym, ◌∙◌, inl, inr, arith}
 use Rattle.std.proofs.lemmas.List.{get_or_default, get_or_append_left}
 use Rattle.std.proofs.lemmas.Slice.{drop-append-drop}
 use Rattle.std.proofs.lemmas.Bool.{eq-eqb, eqb-true}
 use Rattle.rows.specs.Waiting.{Waiting}
 use Rattle.tables.specs.Closed.{Loosened}
 use Rattle.tables.specs.Grants.{CanBeFreed, LoosenedCanBeFreed}
-use Rattle.reduction.specs.Marks.{loose, held, marked}
+use Rattle.reduction.specs.Marks.{loose, held}
 use Rattle.reduction.specs.Work.{Decided}
 use Rattle.reduction.specs.Reduced.{Reduced}
 

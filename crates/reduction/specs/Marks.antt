@@ -1,5 +1,5 @@
 -- Jobs marked by bytes.
-use Rattle.std.specs.Prelude.{ℕ, Bool, not, List, ◌==◌, slice_index_or}
+use Rattle.std.specs.Prelude.{ℕ, Bool, List, ◌==◌, slice_index_or}
 
 -- The byte of a loosened job, and that of any other.
 abbrev pub loose : ℕ

@@ -1,5 +1,5 @@
 -- What a reduction leaves.
-use Rattle.std.specs.Prelude.{◌≡◌, ℕ, ◌<◌, Bool, true, cond, ◌↔◌, List, length, drop, Ok, Err, Result, nat_lt, slice_index_or}
+use Rattle.std.specs.Prelude.{◌≡◌, ℕ, ◌<◌, cond, ◌↔◌, List, length, drop, Ok, Err, Result, nat_lt, slice_index_or}
 use Rattle.rows.specs.Waiting.{Waiting}
 use Rattle.tables.specs.Closed.{Loosened}
 use Rattle.tables.specs.Grants.{CanBeFreed}

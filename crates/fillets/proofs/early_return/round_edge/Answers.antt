@@ -1,7 +1,7 @@
-use Rattle.std.proofs.Common.{◌≡◌, sym, refl, ap, ◌∙◌}
-use Rattle.book.specs.Calls.{Edit, requests}
-use Rattle.book.specs.Views.{book_state, told}
-use Rattle.book.proofs.Rounds.{cancel_leaves, keep_leaves, cancel_taken, keep_taken}
+use Rattle.std.proofs.Common.{refl}
+use Rattle.book.specs.Calls.{requests}
+use Rattle.book.specs.Views.{book_state}
+use Rattle.book.proofs.Rounds.{cancel_leaves, cancel_taken, keep_taken}
 use Rattle.fillets.specs.Fillets.{faces_needed}
 use Rattle.fillets.proofs.early_return.round_edge.Goals as goal
 

@@ -1,6 +1,5 @@
-use Rattle.std.proofs.Common.{◌≡◌, ℕ, ◌+◌, ◌<◌, ◌≤◌, true, false, length, drop, sym, refl, ap, ◌∙◌, arith}
+use Rattle.std.proofs.Common.{true, false, sym, ◌∙◌, arith}
 use Rattle.rows.specs.Waiting.{at}
-use Rattle.tables.specs.Closed.{count}
 use Rattle.reduction.specs.Marks.{marked}
 use Rattle.tables.proofs.Targets.{no_target_is_past}
 use Rattle.reduction.proofs.Counted.{count_here, count_end}

@@ -1,4 +1,4 @@
-use Rattle.std.proofs.Common.{◌≡◌, ◌≤◌, eqb, length, arith}
+use Rattle.std.proofs.Common.{◌≤◌, eqb, length, arith}
 use Rattle.std.proofs.lemmas.Bool.Decides.{nat_tests}
 use Rattle.containers.specs.Queues.{queue_items}
 use Rattle.reduction.specs.Marks.{loose}

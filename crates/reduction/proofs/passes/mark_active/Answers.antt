@@ -1,7 +1,7 @@
-use Rattle.std.proofs.Common.{◌≡◌, ℕ, ◌+◌, ◌<◌, ◌≤◌, [], ◌∷◌, ◌++◌, length, set, replicate, sym, refl, ap, ◌∙◌, subst, arith}
+use Rattle.std.proofs.Common.{◌+◌, ◌<◌, ◌≤◌, length, replicate, sym, ap, ◌∙◌, arith}
 use Rattle.containers.specs.Queues.{queue_items, queue_room}
-use Rattle.reduction.specs.Marks.{loose, held}
-use Rattle.reduction.proofs.Marking.{Started, start_zero, start_skip, start_mark, start_settled, start_active, queue_room_left, started_is}
+use Rattle.reduction.specs.Marks.{held}
+use Rattle.reduction.proofs.Marking.{start_zero, start_skip, start_mark, start_settled, start_active, queue_room_left, started_is}
 use Rattle.reduction.proofs.passes.mark_active.Goals as goal
 use Rattle.reduction.proofs.passes.mark_active.Goals.{then-need-eq0, else-need-eq0}
 

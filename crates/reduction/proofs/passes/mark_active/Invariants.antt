@@ -1,6 +1,5 @@
-use Rattle.std.proofs.Common.{◌≡◌, ℕ, false}
+use Rattle.std.proofs.Common.{◌≡◌}
 use Rattle.containers.specs.Queues.{queue_items, queue_room}
-use Rattle.reduction.specs.Work.{Marks, ActiveBelow}
 use Rattle.reduction.proofs.Marking.{Started}
 use Rattle.reduction.proofs.passes.mark_active.Given as goal
 

@@ -1,4 +1,4 @@
-use Rattle.std.proofs.Common.{◌≡◌, ℕ, ◌+◌, ◌<◌, ◌≤◌, length, sym, ap, ◌∙◌, arith}
+use Rattle.std.proofs.Common.{◌+◌, ◌<◌, length, sym, ap, ◌∙◌, arith}
 use Rattle.containers.specs.Queues.{queue_items, queue_room}
 use Rattle.reduction.proofs.Marking.{passing_is, pass_not, pass_yes, next_unmarked, queue_room_left}
 use Rattle.reduction.proofs.passes.mark_waiters.Goals as goal

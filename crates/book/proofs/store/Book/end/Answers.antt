@@ -1,9 +1,9 @@
-use Rattle.std.proofs.Common.{◌≡◌, sym, ap, ◌∙◌}
+use Rattle.std.proofs.Common.{sym, ap, ◌∙◌}
 use Rattle.groups.specs.State.{face, innermost}
 use Rattle.groups.specs.Memory.{state}
 use Rattle.book.specs.Calls.{ends}
 use Rattle.book.specs.Answers.{says, after}
-use Rattle.book.specs.Views.{book_state, told_ending, told_return}
+use Rattle.book.specs.Views.{book_state, told_return}
 use Rattle.book.proofs.Following.{follows}
 use Rattle.book.proofs.Lawful.{lawful_of, keep_lawful, keep_seen, cancel_lawful, cancel_seen, innermost_seen}
 use Rattle.book.proofs.Told.{end_told, after_keep, after_cancel}

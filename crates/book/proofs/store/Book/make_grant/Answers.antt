@@ -1,10 +1,9 @@
-use Rattle.std.proofs.Common.{◌≡◌, ℕ, ◌<◌, ◌≤◌, true, false, ◌⊎◌, sym, refl, ap, ◌∙◌, inl, inr, arith}
-use Rattle.rows.specs.Waiting.{Waiting, at, among}
+use Rattle.std.proofs.Common.{◌≡◌, ◌≤◌, true, ◌⊎◌, sym, ap, ◌∙◌, inl, inr, arith}
+use Rattle.rows.specs.Waiting.{Waiting, among}
 use Rattle.rows.specs.Law.{row_fits}
 use Rattle.rows.specs.Changes.{granted}
-use Rattle.rows.specs.Views.{waiting_of, granted_by}
+use Rattle.rows.specs.Views.{waiting_of}
 use Rattle.rows.proofs.Laws.{grant_fits}
-use Rattle.groups.specs.Memory.{state}
 use Rattle.book.specs.declared.fault.BookFault.TheVariants.{NoSuchJob, GranterBlocked, NoSuchWait}
 use Rattle.book.specs.Calls.{grants}
 use Rattle.book.specs.Views.{book_state}

@@ -1,10 +1,7 @@
-use Rattle.std.proofs.Common.{◌≡◌, ℕ, ◌<◌, ◌≤◌, true, length, Ok, Err, sym, refl, ap, ◌∙◌, arith}
-use Rattle.rows.specs.Waiting.{Waiting, at}
+use Rattle.std.proofs.Common.{sym, ap, ◌∙◌, arith}
+use Rattle.rows.specs.Waiting.{Waiting}
 use Rattle.rows.specs.Views.{waiting_of}
 use Rattle.rows.proofs.Laws.{request_fits}
-use Rattle.groups.specs.State.{State, written}
-use Rattle.groups.specs.Memory.{state}
-use Rattle.book.specs.declared.store.Book.{Book}
 use Rattle.book.specs.declared.fault.BookFault.TheVariants.{NoSuchJob, Blocked}
 use Rattle.book.specs.Faults.{of_row}
 use Rattle.book.specs.Calls.{requests}

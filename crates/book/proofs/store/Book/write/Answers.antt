@@ -1,4 +1,4 @@
-use Rattle.std.proofs.Common.{◌≡◌, true, false, cond, sym, refl, ap, ◌∙◌, subst}
+use Rattle.std.proofs.Common.{◌≡◌, true, false, ap, ◌∙◌}
 use Rattle.rows.specs.Law.{row_fits}
 use Rattle.rows.specs.Views.{waiting, plain_fits}
 use Rattle.rows.proofs.Laws.{sound_fits}

@@ -1,4 +1,4 @@
-use Rattle.std.proofs.Common.{arith, rules}
+use Rattle.std.proofs.Common.{arith}
 use Rattle.groups.proofs.Tops.{length-top}
 use Rattle.groups.proofs.starts.Starts.len.Goals as goal
 

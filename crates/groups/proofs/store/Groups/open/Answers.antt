@@ -1,4 +1,4 @@
-use Rattle.std.proofs.Common.{◌≡◌, true, false, cond, ltb, ◌∷◌, length, sym, refl, ap, ◌∙◌}
+use Rattle.std.proofs.Common.{◌≡◌, true, false, ltb, sym, refl, ap, ◌∙◌}
 use Rattle.containers.specs.Stacks.{stack_items}
 use Rattle.groups.specs.Starts.{starts_of}
 use Rattle.groups.specs.State.{face}

@@ -1,9 +1,7 @@
-use Rattle.std.proofs.Common.{◌≡◌, ◌<◌, true, false, cond, not, ◌&&◌, set, sym, refl, ap, ◌∙◌, arith}
+use Rattle.std.proofs.Common.{set, refl, ap, ◌∙◌, arith}
 use Rattle.std.proofs.lemmas.Bool.Decides.{nat_tests}
 use Rattle.groups.specs.declared.store.Groups.{Groups}
-use Rattle.containers.specs.Stacks.{stack_items, stack_room}
-use Rattle.groups.specs.State.{face, full}
-use Rattle.groups.specs.Memory.{state}
+use Rattle.containers.specs.Stacks.{stack_items}
 use Rattle.groups.proofs.Stepped.{beside_is, full_told, same_steps, note_steps, plain_steps}
 use Rattle.groups.proofs.store.Groups.write.Goals as goal
 use Rattle.groups.proofs.store.Groups.write.Goals.{else-len-gt0-via-then-len-gt0+else-not-note, else-len-gt0-via-else-len-gt0}
