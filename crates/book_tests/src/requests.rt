@@ -1,6 +1,7 @@
 // Requests: the limit of the targets, and the refusals in their order.
 use crate::common::*;
 use book::{Book, BookFault, Old, PlainRow};
+use std::test::Fail;
 
 // Sixteen targets, and one more.
 const MANY: [u8; 17] = [0, 1, 2, 3, 4, 5, 6, 7, 8, 9, 10, 11, 12, 13, 14, 15, 16];

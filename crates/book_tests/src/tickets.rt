@@ -1,6 +1,7 @@
 // Tickets that do not fit, and come back.
 use crate::common::*;
 use book::{Book, Old, PlainRow, RefusedEnding, Ticket};
+use std::test::Fail;
 
 // The ticket that a refused ending hands back, and the number of the refusal.
 fn back(answer: Result<(), RefusedEnding>) -> Result<(Ticket, u8), Fail> {

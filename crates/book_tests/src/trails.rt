@@ -1,6 +1,7 @@
 // How many edits the groups hold.
 use crate::common::*;
 use book::{Book, Old, PlainRow};
+use std::test::Fail;
 
 // An edit of job 0: it waits for job 1, or no longer waits.
 fn turned(book: &mut Book) -> u8 {
