@@ -20,7 +20,7 @@ spread-requires g c =
     let blanks = all_are_blank g (goal.at.spread-requires g c).After-fill in
     record {
       table = c.requires.table;
-      goal = c.need-need.ensures;
+      need = c.need-need.ensures;
       room = spread_has_room c.requires.table c.requires.job blanks (g.C.Carrier.carried c.args.carrier.now) c.requires.waiting c.requires.room;
     }
 
@@ -28,7 +28,7 @@ pub loop-message-init : goal.loop-message-init
 loop-message-init g c =
     let blanks = all_are_blank g (goal.at.loop-message-init g c).After-fill in
     run_begins c.requires.table c.requires.job blanks (g.C.Carrier.carried c.args.carrier.now) c.requires.waiting
-    c.spread.ensures.own c.spread.ensures.sent c.handed-out-before.ensures c.handed-out-before.type-inv
+    c.spread.ensures.own c.spread.ensures.sent c.handed_out-before.ensures c.handed_out-before.type_inv
 
 pub deliver-requires : goal.deliver-requires
 deliver-requires g c =
@@ -44,7 +44,7 @@ deliver-requires g c =
 pub loop-message-smaller : goal.loop-message-smaller
 loop-message-smaller g c =
     fewer_deliveries_are_left c.requires.table c.requires.job c.loop-message.invariant c.loop-message-test.ensures.took
-    c.deliver.ensures.records c.deliver.ensures.sent c.handed-out-before.type-inv
+    c.deliver.ensures.records c.deliver.ensures.sent c.handed_out-before.type_inv
 
 pub loop-message-preserved : goal.loop-message-preserved
 loop-message-preserved g c =
@@ -55,5 +55,5 @@ pub returns : goal.returns
 returns g c =
     run_is_finished c.requires.table c.requires.job c.loop-message.invariant c.loop-message-test.ensures.took
     c.args.records.now (g.C.Carrier.carried c.args.carrier.now) _ c.requires.records
-    c.spread.ensures.sent.capacity c.handed-out-before.ensures c.handed-out-before.type-inv
-    c.verdict_of.ensures (omega (arith, c.handed-out.ensures))
+    c.spread.ensures.sent.capacity c.handed_out-before.ensures c.handed_out-before.type_inv
+    c.verdict_of.ensures (omega (arith, c.handed_out.ensures))

@@ -9,10 +9,10 @@ use Rattle.detection.proofs.detector.waits.Goals.{After-jobs-job-end}
 tabled : (g : given.Over) (c : After-jobs-job-end g) → Tabled (g.T.Table.rows c.args.table.now)
 tabled g c = record { few = omega (arith, c.jobs-job-end.ensures.value, c.jobs-job-end.ensures.bound); lawful = c.jobs-job-end.ensures.lawful }
 
-pub overflow-add-waits : goal.overflow-add-waits
-overflow-add-waits g c =
+pub overflow_add-waits : goal.overflow_add-waits
+overflow_add-waits g c =
     let rows = g.T.Table.rows c.args.table.now in
-    let table = tabled g (goal.at.overflow-add-waits g c).After-jobs-job-end in
+    let table = tabled g (goal.at.overflow_add-waits g c).After-jobs-job-end in
     omega (arith, targets_are_few rows table c.loop-job.job, first_rows_have_few_waits rows table c.loop-job.job, c.jobs-job-end.ensures.bound)
 
 pub loop-job-preserved : goal.loop-job-preserved

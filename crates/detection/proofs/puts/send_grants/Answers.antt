@@ -22,18 +22,18 @@ is_a_job g c =
 pub loop-waiter-init : goal.loop-waiter-init
 loop-waiter-init g c = (none_is_sent_at_first _ _ _, walk_starts_at_place_0 (g.T.Table.rows c.args.table.now) c.args.job _ refl)
 
-pub overflow-cast-wait : goal.overflow-cast-wait
-overflow-cast-wait g c = omega (arith, is_a_job g (goal.at.overflow-cast-wait g c).In-Some, c.requires.table.few)
+pub overflow_cast-wait : goal.overflow_cast-wait
+overflow_cast-wait g c = omega (arith, is_a_job g (goal.at.overflow_cast-wait g c).In-Some, c.requires.table.few)
 
 pub send-requires : goal.send-requires
 send-requires g c = next_has_room c.loop-waiter.invariant.0 c.in-Some.waiter (found g (goal.at.send-requires g c).In-Some) c.requires.room
 
-pub overflow-add-count : goal.overflow-add-count
-overflow-add-count g c =
+pub overflow_add-count : goal.overflow_add-count
+overflow_add-count g c =
     omega (arith, waiters_are_few (g.T.Table.rows c.args.table.now) c.requires.table c.args.job, c.loop-waiter.invariant.0.within)
 
-pub overflow-add-from : goal.overflow-add-from
-overflow-add-from g c = omega (arith, is_a_job g (goal.at.overflow-add-from g c).In-Some, c.requires.table.few)
+pub overflow_add-from : goal.overflow_add-from
+overflow_add-from g c = omega (arith, is_a_job g (goal.at.overflow_add-from g c).In-Some, c.requires.table.few)
 
 pub loop-waiter-smaller : goal.loop-waiter-smaller
 loop-waiter-smaller g c =
@@ -50,5 +50,5 @@ loop-waiter-preserved g c =
 
 pub returns : goal.returns
 returns g c =
-    let none = c.in-default.ensures ∙ c.loop-waiter.invariant.1 in
+    let none = c.in_default.ensures ∙ c.loop-waiter.invariant.1 in
     record { count = whole_list_is_counted c.loop-waiter.invariant.0 none; sent = whole_list_is_sent c.loop-waiter.invariant.0 none }

@@ -11,12 +11,12 @@ loop-target-init g c = none_is_sent_at_first _ _ _
 pub send-requires : goal.send-requires
 send-requires g c = next_has_room c.loop-target.invariant c.in-Some.target c.in-Some.ensures c.requires.room
 
-pub overflow-add-place : goal.overflow-add-place
-overflow-add-place g c =
+pub overflow_add-place : goal.overflow_add-place
+overflow_add-place g c =
     omega (arith, targets_are_few (g.T.Table.rows c.args.table.now) c.requires.table c.args.job, c.loop-target.invariant.within)
 
-pub overflow-cast-result : goal.overflow-cast-result
-overflow-cast-result g c =
+pub overflow_cast-result : goal.overflow_cast-result
+overflow_cast-result g c =
     omega (arith, targets_are_few (g.T.Table.rows c.args.table.now) c.requires.table c.args.job, c.loop-target.invariant.within)
 
 pub loop-target-smaller : goal.loop-target-smaller
@@ -29,6 +29,6 @@ loop-target-preserved g c = next_is_sent_too c.loop-target.invariant c.in-Some.t
 
 pub returns : goal.returns
 returns g c = record {
-  count = whole_list_is_counted c.loop-target.invariant c.in-default.ensures;
-  sent = whole_list_is_sent c.loop-target.invariant c.in-default.ensures;
+  count = whole_list_is_counted c.loop-target.invariant c.in_default.ensures;
+  sent = whole_list_is_sent c.loop-target.invariant c.in_default.ensures;
 }

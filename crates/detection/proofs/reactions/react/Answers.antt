@@ -7,13 +7,13 @@ use Rattle.detection.proofs.reactions.react.Given as given
 use Rattle.detection.proofs.reactions.react.Goals as goal
 use Rattle.detection.proofs.reactions.react.Goals.{Then-own-need, Then-due-eq0}
 
-pub overflow-add-own : goal.overflow-add-own
-overflow-add-own g c =
+pub overflow_add-own : goal.overflow_add-own
+overflow_add-own g c =
     let few = grant_finds_few_granted c.requires.table c.args.message.wait c.args.own.now c.in-Grant-default-false.is-0 c.requires.due in
     omega arith
 
-pub overflow-add-own-in-Grant-default-default : goal.overflow-add-own-in-Grant-default-default
-overflow-add-own-in-Grant-default-default g c =
+pub overflow_add-own-in-Grant-default-default : goal.overflow_add-own-in-Grant-default-default
+overflow_add-own-in-Grant-default-default g c =
     let few = grant_finds_few_granted c.requires.table c.args.message.wait c.args.own.now c.in-Grant-default-default.is-0 c.requires.due in
     omega arith
 

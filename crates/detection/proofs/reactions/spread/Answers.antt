@@ -13,8 +13,8 @@ use Rattle.detection.proofs.reactions.spread.Goals.{Then-need-eq0}
 active : (g : given.Over) (c : Then-need-eq0 g) → (at (g.T.Table.rows c.args.table.now) c.args.job).need ≡ 0
 active g c = sym c.requires.need ∙ c.if-need-eq0.true
 
-pub send-notifies-own-requires : goal.send-notifies-own-requires
-send-notifies-own-requires g c =
+pub send_notifies-own-requires : goal.send_notifies-own-requires
+send_notifies-own-requires g c =
     let rows = g.T.Table.rows c.args.table.now in
     record { table = c.requires.table; room = omega (arith, spread_puts_each_notify rows c.args.job c.args.own.now, c.requires.room) }
 
@@ -22,8 +22,8 @@ pub release-requires : goal.release-requires
 release-requires g c =
     let rows = g.T.Table.rows c.args.table.now in
     let before = g.C.Carrier.carried c.args.carrier.now in
-    let between = g.C.Carrier.carried c.send-notifies-own.new.carrier in
-    let sent = c.send-notifies-own.ensures.sent in
+    let between = g.C.Carrier.carried c.send_notifies-own.new.carrier in
+    let sent = c.send_notifies-own.ensures.sent in
     let puts = active_job_puts_both rows c.args.job c.args.own.now (active g (goal.at.release-requires g c).Then-need-eq0) in
     record { table = c.requires.table; room = omega (arith, length-sent before between (notifies rows c.args.job) sent, sent.capacity, puts, c.requires.room) }
 
@@ -31,12 +31,12 @@ pub returns-then-need-eq0 : goal.returns-then-need-eq0
 returns-then-need-eq0 g c =
     let rows = g.T.Table.rows c.args.table.now in
     let before = g.C.Carrier.carried c.args.carrier.now in
-    let between = g.C.Carrier.carried c.send-notifies-own.new.carrier in
+    let between = g.C.Carrier.carried c.send_notifies-own.new.carrier in
     let after = g.C.Carrier.carried c.release.new.carrier in
     let both = active_job_lets_go rows c.args.job c.args.own.now (active g (goal.at.returns-then-need-eq0 g c).Then-need-eq0) in
     let sent = sent_more before between after (notifies rows c.args.job) (grants rows c.args.job)
-    c.send-notifies-own.ensures.sent c.release.ensures.sent in
-    let count = c.send-notifies-own.ensures.count in
+    c.send_notifies-own.ensures.sent c.release.ensures.sent in
+    let count = c.send_notifies-own.ensures.count in
     let becomes = c.release.ensures.own in
     let becomes-both = ap (λ (a : Act). a.becomes) both in
     record { own = cc; sent = subst (λ (a : Act). Sent before after a.puts) (sym both) sent }
