@@ -1,7 +1,7 @@
 // The detection: a run of the exchange from one job, over any table and any carrier.
 ghost use Rattle.std.specs.Prelude.{◌≡◌, ◌*◌, ◌<◌, ◌≤◌, length, MatchResult};
 ghost use Rattle.std.specs.Result.{result_err};
-ghost use Rattle.tables.specs.Tables.{jobs_max, waits as waitsOf};
+ghost use Rattle.tables.specs.Tables.{jobs_max, waits as waits_of};
 ghost use Rattle.rows.specs.Law.{targets_max};
 ghost use Rattle.detection.specs.Detected.{stop, Finished, verdict_of};
 ghost use Rattle.detection.specs.Asked.{Tabled};
@@ -45,7 +45,7 @@ pub fn detect<T: TwoWayTable, C: Carrier>(
 
 // How many waits a table has.
 fn waits<T: Table>(table: &T) -> usize
-    ensures value { result ≡ waitsOf (T.Table.rows table.now) }
+    ensures value { result ≡ waits_of (T.Table.rows table.now) }
     ensures bound { result ≤ jobs_max * targets_max }
 {
     let mut waits = 0;
@@ -66,7 +66,7 @@ fn run<T: TwoWayTable, C: Carrier>(
     requires job { initiator < length (T.Table.rows table.now) }
     requires records { length records.old ≡ length (T.Table.rows table.now) }
     requires waiting { length (C.Carrier.carried carrier.old).waiting ≡ 0 }
-    requires room { 2 * waitsOf (T.Table.rows table.now) ≤ (C.Carrier.carried carrier.old).capacity }
+    requires room { 2 * waits_of (T.Table.rows table.now) ≤ (C.Carrier.carried carrier.old).capacity }
     ensures { Finished (T.Table.rows table.now) initiator records.old records.new (C.Carrier.carried carrier.old) (C.Carrier.carried carrier.new) result }
 {
     let before = carrier.handed_out();

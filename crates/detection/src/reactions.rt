@@ -2,7 +2,7 @@
 ghost use Rattle.std.specs.Prelude.{◌≡◌, ◌<◌, length, slice_set};
 ghost use Rattle.carriers.specs.Meaning.{Sent};
 ghost use Rattle.rows.specs.Waiting.{at};
-ghost use Rattle.exchange.specs.Messages.{receiver as goesTo};
+ghost use Rattle.exchange.specs.Messages.{receiver as goes_to};
 ghost use Rattle.exchange.specs.Rules.{let_go, close_notice, spread as spreading, react as reacting};
 ghost use Rattle.exchange.specs.Runs.{reaction};
 ghost use Rattle.exchange.specs.Bounds.{Due, Awaited};
@@ -55,7 +55,7 @@ fn close_notice<C: Carrier>(own: &RunRecord, carrier: &mut C)
 
 // Who receives a message.
 fn receiver(message: Message) -> u8
-    ensures { result ≡ goesTo message }
+    ensures { result ≡ goes_to message }
 {
     match message.kind {
         Kind::Notify | Kind::Ack => message.wait.target,
@@ -128,7 +128,7 @@ pub fn deliver<T: TwoWayTable, C: Carrier>(
     requires records { length records.old ≡ length (T.Table.rows table.now) }
     requires awaited { Awaited (T.Table.rows table.now) records.old message }
     requires room { RoomFor (C.Carrier.carried carrier.old) (reaction (T.Table.rows table.now) records.old message).puts }
-    ensures records { records.new ≡ slice_set records.old (goesTo message) (reaction (T.Table.rows table.now) records.old message).becomes }
+    ensures records { records.new ≡ slice_set records.old (goes_to message) (reaction (T.Table.rows table.now) records.old message).becomes }
     ensures sent { Sent (C.Carrier.carried carrier.old) (C.Carrier.carried carrier.new) (reaction (T.Table.rows table.now) records.old message).puts }
 {
     let job = receiver(message) as usize;
