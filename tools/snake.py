@@ -4,7 +4,7 @@
 usage: python3 tools/snake.py          at the top of the repository; rewrites crates/**/*.antt and the clauses of crates/**/*.rt
        python3 tools/snake.py --list   prints each old name beside its new one, and writes nothing
 
-A lemma that is named after a left side that begins with a word of the library, as `length-parts`, keeps the dash that joins the
+A lemma that is named after a left side that begins with a word of the library, as `length-top`, keeps the dash that joins the
 two, and so does a name that ends in an operator or begins with a type. A fact is in camel case. Names that the checker makes
 (goals and steps), strings, comments and code stay as they are.
 It is to be run once, on the spelling of the older toolchain.

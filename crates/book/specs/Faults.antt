@@ -1,7 +1,7 @@
 -- The number of each refusal of the book, and the value that it carries.
 use Rattle.std.specs.Prelude.{ℕ, Some, None, Option}
 use Rattle.rows.specs.declared.plain.RowFault.{RowFault}
-use Rattle.rows.specs.declared.plain.RowFault.TheVariants.{WrongCounts as row_Counts, WrongTarget as row_target}
+use Rattle.rows.specs.declared.plain.RowFault.TheVariants.{WrongCounts as row_counts, WrongTarget as row_target}
 use Rattle.book.specs.declared.fault.BookFault.{BookFault}
 use Rattle.book.specs.declared.fault.BookFault.TheVariants.{NoSuchJob, Blocked, WrongCounts, WrongTarget, TrailFull, GranterBlocked, NoSuchWait, TooDeep, NotInnermost}
 
@@ -30,5 +30,5 @@ value NotInnermost = None
 
 -- The book's refusal of a request that makes no row.
 abbrev pub of_row : RowFault → BookFault
-of_row row_Counts = WrongCounts
+of_row row_counts = WrongCounts
 of_row (row_target place) = WrongTarget place

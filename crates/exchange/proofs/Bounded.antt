@@ -1,6 +1,6 @@
 -- Every run is bounded.
 use Rattle.std.proofs.Common.{◌≡◌, ℕ, suc, ◌+◌, ◌<◌, ◌≤◌, List, [], ◌∷◌, length, subst, arith}
-use Rattle.std.specs.List.{AllByRecursion as All}
+use Rattle.std.specs.List.{AllByRecursion}
 use Rattle.carriers.specs.declared.message.Kind.{Kind}
 use Rattle.carriers.specs.declared.message.Message.{Message}
 use Rattle.carriers.specs.declared.message.Wait.{Wait}
@@ -27,10 +27,10 @@ module _ (rows : List Waiting) (ok : Sound rows) where
       subst (λ (n : ℕ). Kept rows initiator n s) e (run_keeps initiator 0 x.run (start_keeps rows ok initiator l x.first x.begins))
 
   -- Each message that waits is awaited.
-  all_awaited : (initiator k : ℕ) (s : State) → Kept rows initiator k s → All (Awaited rows s.records) s.waiting
+  all_awaited : (initiator k : ℕ) (s : State) → Kept rows initiator k s → AllByRecursion (Awaited rows s.records) s.waiting
   all_awaited initiator k s v = part s.waiting v.on_waits (λ f. omega arith)
     where
-      part : (ms : List Message) → All (Entries.OnWait rows) ms → ((f : Kind → Wait → ℕ) → weigh f ms ≤ weigh f s.waiting) → All (Awaited rows s.records) ms
+      part : (ms : List Message) → AllByRecursion (Entries.OnWait rows) ms → ((f : Kind → Wait → ℕ) → weigh f ms ≤ weigh f s.waiting) → AllByRecursion (Awaited rows s.records) ms
       part [] a h = tt
       part (m ∷ ms) a h = (
         record {

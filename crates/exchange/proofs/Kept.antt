@@ -6,7 +6,7 @@ use Rattle.std.proofs.lemmas.List.{get_or-set_same, get_or-set_other, get_or-rep
 use Rattle.std.proofs.lemmas.List.Sorted.{IsPermutation-sym}
 use Rattle.std.proofs.lemmas.Bool.{true≢false, cases_Bool, cases_eq}
 use Rattle.std.proofs.lemmas.Bool.Decides.{nat_tests}
-use Rattle.std.specs.List.{AllByRecursion as All}
+use Rattle.std.specs.List.{AllByRecursion}
 use Rattle.carriers.specs.declared.message.Kind.{Kind}
 use Rattle.carriers.specs.declared.message.Kind.TheVariants.{Notify, Done, Grant, Ack}
 use Rattle.carriers.specs.declared.message.Message.{Message}
@@ -50,7 +50,7 @@ Held R S j r = (r.notified ≡ true → R j ≡ true) × (r.free ≡ true → S 
 pub record Kept (rows : List Waiting) (initiator k : ℕ) (s : State) : Type 0 where
   pub records : length s.records ≡ length rows
   pub fair : (j : ℕ) → j < length rows → Entries.Fair rows j (get_or s.records j blank)
-  pub on_waits : All (Entries.OnWait rows) s.waiting
+  pub on_waits : AllByRecursion (Entries.OnWait rows) s.waiting
   -- the DONEs due to x: a NOTIFY or a DONE is on its way, or a job owes one; and so for ACKs
   pub dones : (x : ℕ) → Balanced (length rows) s (Entries.dones_of x) (Entries.notice_of x) (Entries.owes_done rows x)
   pub acks : (x : ℕ) → Balanced (length rows) s (Entries.acks_of x) (Entries.grant_of x) (Entries.owes_ack x)
@@ -140,7 +140,7 @@ module _ (rows : List Waiting) (ok : Sound rows) where
     abbrev act : Act
     act = reaction rows s.records m
 
-    parts_on_waits : All (Entries.OnWait rows) (m ∷ d.rest)
+    parts_on_waits : AllByRecursion (Entries.OnWait rows) (m ∷ d.rest)
     parts_on_waits = all_shuffled (Entries.OnWait rows) s.waiting (m ∷ d.rest) (IsPermutation-sym (m ∷ d.rest) s.waiting d.taken) v.on_waits
 
     on_wait : Entries.OnWait rows m

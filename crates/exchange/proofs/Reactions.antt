@@ -3,7 +3,7 @@ use Rattle.std.proofs.Common.{◌≡◌, ℕ, ◌+◌, ◌-◌, ◌<◌, ◌≤�
 use Rattle.std.proofs.ByRecursion.{All-append, All-map}
 use Rattle.std.proofs.lemmas.Bool.{true≢false, cases_eq, cond_both}
 use Rattle.std.proofs.lemmas.Bool.Decides.{nat_tests}
-use Rattle.std.specs.List.{AllByRecursion as All}
+use Rattle.std.specs.List.{AllByRecursion}
 use Rattle.carriers.specs.declared.message.Kind.{Kind}
 use Rattle.carriers.specs.declared.message.Kind.TheVariants.{Notify, Done, Grant, Ack}
 use Rattle.carriers.specs.declared.message.Wait.{Wait}
@@ -342,37 +342,37 @@ module _ (rows : List Waiting) (ok : Sound rows) where
       record { unnotified = l.unnotified; unfree = λ e. (let q = l.unfree e in (omega arith, q.1)); active = l.active; lacking = l.lacking; notified_by = l.notified_by; freed_by = l.freed_by }
 
   -- Every message that is put is on a wait of the table.
-  done_on_wait : (o : Option Wait) → Entries.NotifiedBy rows o → All (Entries.OnWait rows) (put_on Done o)
+  done_on_wait : (o : Option Wait) → Entries.NotifiedBy rows o → AllByRecursion (Entries.OnWait rows) (put_on Done o)
   done_on_wait None a = tt
   done_on_wait (Some w) a = (a, tt)
 
-  ack_on_wait : (j : ℕ) (o : Option Wait) → Entries.FreedBy rows j o → All (Entries.OnWait rows) (put_on Ack o)
+  ack_on_wait : (j : ℕ) (o : Option Wait) → Entries.FreedBy rows j o → AllByRecursion (Entries.OnWait rows) (put_on Ack o)
   ack_on_wait j None a = tt
   ack_on_wait j (Some w) a = (a.1, tt)
 
-  notifies_on_waits : (j : ℕ) → All (Entries.OnWait rows) (notifies rows j)
+  notifies_on_waits : (j : ℕ) → AllByRecursion (Entries.OnWait rows) (notifies rows j)
   notifies_on_waits j = All-map (Entries.OnWait rows) (λ (u : ℕ). message Notify (on j u)) (targets rows j) (each_is_among (targets rows j))
 
-  grants_on_waits : (j : ℕ) → All (Entries.OnWait rows) (grants rows j)
+  grants_on_waits : (j : ℕ) → AllByRecursion (Entries.OnWait rows) (grants rows j)
   grants_on_waits j = All-map (Entries.OnWait rows) (λ (v : ℕ). message Grant (on v j)) (waiters rows j) (each_waiter_waits rows ok j)
 
-  pub spread_on_waits : (j : ℕ) (r : RunRecord) → All (Entries.OnWait rows) (spread rows j r).puts
+  pub spread_on_waits : (j : ℕ) (r : RunRecord) → AllByRecursion (Entries.OnWait rows) (spread rows j r).puts
   spread_on_waits j r =
-      at_spread (λ a. All (Entries.OnWait rows) a.puts) j r
+      at_spread (λ a. AllByRecursion (Entries.OnWait rows) a.puts) j r
       (λ z. All-append (Entries.OnWait rows) (notifies rows j) (grants rows j) (notifies_on_waits j) (grants_on_waits j)) (λ z. notifies_on_waits j)
 
-  pub puts_on_waits : (k : Kind) (w : Wait) (r : RunRecord) → Entries.Fair rows (to k w) r → Entries.Waits rows w → All (Entries.OnWait rows) (react rows k w r).puts
-  puts_on_waits Notify w r l o = at_notify (λ a. All (Entries.OnWait rows) a.puts) w r (λ e. (o, tt)) (λ e. spread_on_waits w.target (with_notified_by w r))
+  pub puts_on_waits : (k : Kind) (w : Wait) (r : RunRecord) → Entries.Fair rows (to k w) r → Entries.Waits rows w → AllByRecursion (Entries.OnWait rows) (react rows k w r).puts
+  puts_on_waits Notify w r l o = at_notify (λ a. AllByRecursion (Entries.OnWait rows) a.puts) w r (λ e. (o, tt)) (λ e. spread_on_waits w.target (with_notified_by w r))
   puts_on_waits Done w r l o =
-      cond_both (eqb (r.dones_due - 1) 0) (put_on Done r.notified_by) [] (All (Entries.OnWait rows)) (λ e. done_on_wait r.notified_by l.notified_by) (λ e. tt)
+      cond_both (eqb (r.dones_due - 1) 0) (put_on Done r.notified_by) [] (AllByRecursion (Entries.OnWait rows)) (λ e. done_on_wait r.notified_by l.notified_by) (λ e. tt)
   puts_on_waits Grant w r l o =
-      at_grant (λ a. All (Entries.OnWait rows) a.puts) w r
+      at_grant (λ a. AllByRecursion (Entries.OnWait rows) a.puts) w r
       (λ e f. All-append (Entries.OnWait rows) (grants rows w.waiter) (cond (eqb (length (waiters rows w.waiter)) 0) (message Ack w ∷ []) []) (grants_on_waits w.waiter)
-      (cond_both (eqb (length (waiters rows w.waiter)) 0) (message Ack w ∷ []) [] (All (Entries.OnWait rows)) (λ e. (o, tt)) (λ e. tt)))
+      (cond_both (eqb (length (waiters rows w.waiter)) 0) (message Ack w ∷ []) [] (AllByRecursion (Entries.OnWait rows)) (λ e. (o, tt)) (λ e. tt)))
       (λ e. (o, tt))
   puts_on_waits Ack w r l o =
-      cond_both (eqb (r.acks_due - 1) 0) (cond (eqb (need rows w.target) 0) (put_on Done r.notified_by) (put_on Ack r.freed_by)) [] (All (Entries.OnWait rows))
-      (λ e. cond_both (eqb (need rows w.target) 0) (put_on Done r.notified_by) (put_on Ack r.freed_by) (All (Entries.OnWait rows))
+      cond_both (eqb (r.acks_due - 1) 0) (cond (eqb (need rows w.target) 0) (put_on Done r.notified_by) (put_on Ack r.freed_by)) [] (AllByRecursion (Entries.OnWait rows))
+      (λ e. cond_both (eqb (need rows w.target) 0) (put_on Done r.notified_by) (put_on Ack r.freed_by) (AllByRecursion (Entries.OnWait rows))
       (λ e. done_on_wait r.notified_by l.notified_by) (λ e. ack_on_wait w.target r.freed_by l.freed_by))
       (λ e. tt)
 

@@ -4,7 +4,7 @@ use Rattle.std.proofs.ByRecursion.{All-weaker}
 use Rattle.std.proofs.lemmas.List.{get_or_past}
 use Rattle.std.proofs.lemmas.Bool.{true≢false, cases_lt, cases_Bool, and_parts}
 use Rattle.std.proofs.lemmas.Bool.Decides.{nat_tests}
-use Rattle.std.specs.List.{AllByRecursion as All}
+use Rattle.std.specs.List.{AllByRecursion}
 use Rattle.rows.specs.Waiting.{Waiting, idle, at, among}
 use Rattle.rows.specs.Law.{counts_fit, rising, targets_fit, row_fits}
 use Rattle.rows.proofs.Counts.{Counts, fit_tells}
@@ -42,10 +42,10 @@ lawful_is_sound rows h = record {
 }
 
 -- Every element is among the elements; and where one is, there are some.
-pub each_is_among : (ts : List ℕ) → All (λ u. among u ts ≡ true) ts
+pub each_is_among : (ts : List ℕ) → AllByRecursion (λ u. among u ts ≡ true) ts
 each_is_among ts = part ts (λ u a. a)
   where
-    part : (us : List ℕ) → ((u : ℕ) → among u us ≡ true → among u ts ≡ true) → All (λ u. among u ts ≡ true) us
+    part : (us : List ℕ) → ((u : ℕ) → among u us ≡ true → among u ts ≡ true) → AllByRecursion (λ u. among u ts ≡ true) us
     part [] h = tt
     part (x ∷ xs) h = (h x (grind (arith, nat_tests)), part xs (λ u a. h u (grind (arith, nat_tests))))
 
@@ -87,7 +87,7 @@ module _ (rows : List Waiting) (ok : Sound rows) where
   pub some_waiter : (v u : ℕ) → among u (targets rows v) ≡ true → 0 < length (waiters rows u)
   some_waiter v u a = among_some v (waiters rows u) (waiters_are_who_waits rows u v ∙ a)
 
-  pub each_waiter_waits : (u : ℕ) → All (λ v. among u (targets rows v) ≡ true) (waiters rows u)
+  pub each_waiter_waits : (u : ℕ) → AllByRecursion (λ v. among u (targets rows v) ≡ true) (waiters rows u)
   each_waiter_waits u = All-weaker (λ v. among v (waiters rows u) ≡ true) (λ v. among u (targets rows v) ≡ true) (λ v a. sym (waiters_are_who_waits rows u v) ∙ a) (waiters rows u) (each_is_among (waiters rows u))
 
   -- Each wait is counted once by who waits, and once by whom it is for.

@@ -1,6 +1,6 @@
 -- How long a run can be, how many messages can wait, and what each of them finds.
 use Rattle.std.specs.Prelude.{◌≡◌, ℕ, ◌*◌, ◌<◌, ◌≤◌, true, List, length, slice_index_or}
-use Rattle.std.specs.List.{AllByRecursion as All}
+use Rattle.std.specs.List.{AllByRecursion}
 use Rattle.carriers.specs.declared.message.Kind.{Kind}
 use Rattle.carriers.specs.declared.message.Kind.TheVariants.{Notify, Done, Grant, Ack}
 use Rattle.carriers.specs.declared.message.Message.{Message}
@@ -33,7 +33,7 @@ pub record Bounded (rows : List Waiting) (k : ℕ) (s : State) : Type 0 where
   pub deliveries : k ≤ 4 * waits rows
   -- there are never more than two messages a wait
   pub messages : length s.waiting ≤ 2 * waits rows
-  pub awaited : All (Awaited rows s.records) s.waiting
+  pub awaited : AllByRecursion (Awaited rows s.records) s.waiting
 
 -- It holds at every moment of every run from an initiator, in whatever order the messages come.
 abbrev pub RunsBounded : List Waiting → ℕ → Type 0

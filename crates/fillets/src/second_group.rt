@@ -1,5 +1,5 @@
 // A fillet that is made, and a second one that is only tried.
-ghost use Rattle.std.specs.Prelude.{◌≡◌, true, cond, is_ok};
+ghost use Rattle.std.specs.Prelude.{◌≡◌, true, is_ok};
 ghost use Rattle.book.specs.Calls.{changed};
 ghost use Rattle.book.specs.Views.{book_state};
 ghost use Rattle.fillets.specs.Fillets.{waits_for_faces};

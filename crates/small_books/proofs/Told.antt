@@ -1,7 +1,7 @@
 -- The tables of small books, each by one computed test.
 use Rattle.std.proofs.Common.{◌≡◌, ℕ, Bool, true, false, cond, not, ◌&&◌, eqb, ltb, List, [], ◌∷◌, length, sym, refl, ◌∙◌}
 use Rattle.std.proofs.lemmas.Bool.{true≢false, and_parts, eqb-true, ltb-true}
-use Rattle.std.specs.List.{AllByRecursion as All}
+use Rattle.std.specs.List.{AllByRecursion}
 use Rattle.tables.specs.Tables.{lawful}
 use Rattle.exchange.proofs.Ends.{a_run_ends}
 use Rattle.exchange.proofs.Exact.{twice_both}
@@ -57,7 +57,7 @@ abbrev all_compute : List Asked → Bool
 all_compute [] = true
 all_compute (a ∷ rest) = computes a && all_compute rest
 
-all_told : (table : List Asked) → all_compute table ≡ true → All Tells table
+all_told : (table : List Asked) → all_compute table ≡ true → AllByRecursion Tells table
 all_told [] h = tt
 all_told (a ∷ rest) h = let p = and_parts (computes a) (all_compute rest) h in (computed_is_told a p.0, all_told rest p.1)
 

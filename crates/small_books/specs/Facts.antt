@@ -1,6 +1,6 @@
 -- What the tables of small books say.
 use Rattle.std.specs.Prelude.{◌≡◌, List, [], length, slice_index_or}
-use Rattle.std.specs.List.{AllByRecursion as All}
+use Rattle.std.specs.List.{AllByRecursion}
 use Rattle.carriers.specs.declared.message.Message.{Message}
 use Rattle.exchange.specs.Records.{blank}
 use Rattle.exchange.specs.Runs.{State, Exchange}
@@ -20,4 +20,4 @@ pub record Answers (c : Called) : Type 0 where
   pub rows : (after c.before c.call).rows ≡ c.rows
 
 abbrev pub SmallBooksHold : Type 0
-SmallBooksHold = All Tells runs × All Answers calls
+SmallBooksHold = AllByRecursion Tells runs × AllByRecursion Answers calls

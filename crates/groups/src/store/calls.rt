@@ -1,5 +1,5 @@
 // Writing, opening, keeping and cancelling.
-ghost use Rattle.std.specs.Prelude.{◌≡◌, ℕ, ◌+◌, ◌≤◌, min, true, not, ltb, [], ◌∷◌, ◌++◌, length, take, drop, if◌then◌else◌, Some, None, Ok, Err, nat_lt, slice_index_or};
+ghost use Rattle.std.specs.Prelude.{◌≡◌, ℕ, ◌+◌, ◌≤◌, min, true, not, [], ◌∷◌, ◌++◌, length, take, drop, if◌then◌else◌, Some, None, Ok, Err, nat_lt, slice_index_or};
 ghost use Rattle.containers.specs.Stacks.{stack_items, stack_room};
 ghost use Rattle.containers.specs.Taken.{TookLast};
 ghost use Rattle.groups.specs.Limits.{row_count, depth_max, trail_max};
@@ -66,8 +66,8 @@ impl<'a, P: Copy> Groups<'a, P> {
 
     // Opens a group inside the others; none, and nothing changed, if eight are open.
     pub fn open(&mut self) -> Option<Ticket>
-        ensures value { result ≡ (if ltb (face (state self.old)).depth depth_max then Some (record { mark = (state self.old).mark; depth = (face (state self.old)).depth + 1 }) else None) }
-        ensures after { Steps self.old self.new (λ s. (if ltb (face s).depth depth_max then opened s else s)) }
+        ensures value { result ≡ (if nat_lt (face (state self.old)).depth depth_max then Some (record { mark = (state self.old).mark; depth = (face (state self.old)).depth + 1 }) else None) }
+        ensures after { Steps self.old self.new (λ s. (if nat_lt (face s).depth depth_max then opened s else s)) }
     {
         let depth = self.starts.len();
         if !self.starts.push(self.trail.len()) {
