@@ -4,3 +4,8 @@ pub mod Calls
 pub mod Answers
 pub mod History
 pub mod Views
+pub mod Subjects
+pub mod Lent
+pub mod Commands
+pub mod ScriptFaults
+pub mod Scripts

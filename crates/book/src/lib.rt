@@ -2,10 +2,12 @@
 #![tactic(auto)]
 
 mod fault;
+mod script;
 mod store;
 
 pub use fault::{BookFault, RefusedEnding};
 pub use groups::{DEPTH_MAX, Old, TRAIL_MAX, Ticket};
 pub use rows::{PlainRow, TARGETS_MAX};
+pub use script::{FinishedScript, ScriptFault, StoppedScript};
 pub use store::Book;
 pub use tables::JOBS_MAX;

@@ -1,5 +1,5 @@
 -- What a script does: its commands one after the other, to the first fault or to the end; and then its open groups are cancelled.
-use Rattle.std.specs.Prelude.{◌≡◌, ℕ, zero, suc, ◌+◌, ◌-◌, ◌/◌, ◌%◌, ◌<◌, ◌≤◌, Bool, cond, List, [], ◌∷◌, ◌++◌, length, take, drop, Some, None, Ok, Err, MatchBool, Option, Result, nat_lt}
+use Rattle.std.specs.Prelude.{◌≡◌, ℕ, zero, suc, ◌+◌, ◌-◌, ◌/◌, ◌%◌, ◌<◌, ◌≤◌, Bool, List, [], ◌∷◌, ◌++◌, length, take, drop, Some, None, Ok, Err, MatchBool, Option, Result, nat_lt}
 use Rattle.carriers.specs.Meaning.{Carried}
 use Rattle.exchange.specs.declared.record.RunRecord.{RunRecord}
 use Rattle.detection.specs.Detects.{Detects}
@@ -8,7 +8,7 @@ use Rattle.detection.specs.declared.verdict.Verdict.{Verdict}
 use Rattle.detection.specs.declared.verdict.Verdict.TheVariants.{Stuck, Free}
 use Rattle.book.specs.Answers.{done, ticket, stop}
 use Rattle.book.specs.Calls.{Edit, Call, edits, opens, cancels, ends}
-use Rattle.book.specs.Commands.{Command, makes, opening, ending, detecting, Head, over, unknown, cut, whole, head}
+use Rattle.book.specs.Commands.{Command, makes, opening, ending, detecting, over, unknown, cut, whole, head}
 use Rattle.book.specs.Lent.{Lent}
 use Rattle.book.specs.Subjects.{Subject}
 use Rattle.book.specs.declared.script.fault.ScriptFault.{ScriptFault}
