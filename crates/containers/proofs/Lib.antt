@@ -1,4 +1,3 @@
 -- The lemmas, by what they are about.
 pub mod Places
-pub mod Prefixes
 pub mod Rings

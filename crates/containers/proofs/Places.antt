@@ -3,7 +3,6 @@ use Rattle.std.proofs.Common.{◌≡◌, ℕ, suc, ◌+◌, ◌-◌, ◌<◌, �
 use borrow.Rule.Slice.PartMut.{put_mid, post_of}
 use Rattle.std.specs.List.{insert, remove}
 use Rattle.std.proofs.lemmas.List.{length-take, take_at, take-take, take-append-drop, drop_at, drop-drop, drop_more, drop-take, get_or-take}
-use Rattle.containers.proofs.Prefixes.{prefix_is_taken_by_its_length}
 
 -- A list is what is left of it without the element at a place, and that element back at its place.
 pub removed_and_back : {X : Type 0} (xs : List X) (place : ℕ) (d : X)
@@ -17,10 +16,6 @@ removed_and_back xs place d less =
     ∙ ap (λ n. take place xs ++ x ∷ drop n xs) (add-one place)
     ∙ ap (λ ys. ys ++ x ∷ drop (suc place) xs) (sym (take_at (take place xs) (drop (suc place) xs) place below))
     ∙ ap (λ ys. take place (remove xs place) ++ x ∷ ys) (sym (drop_at (take place xs) (drop (suc place) xs) place below))
-
--- An element put in at a place, past the end too, is one more.
-pub length-with_one_more : {X : Type 0} (xs : List X) (place : ℕ) (x : X) → length (insert xs place x) ≡ length xs + 1
-length-with_one_more xs place x = simp (length-append, length-take, length-drop) (omega arith)
 
 -- The elements from a place to the n-th, turned round by one, and the last of the n left out: the one at the place is gone.
 pub turned_by_one_removes : {X : Type 0} (xs turned : List X) (n place : ℕ)
@@ -45,17 +40,14 @@ turned_by_one_removes xs turned n place less le e =
     ∙ ap (λ m. take place (take n xs) ++ drop m (take n xs)) (add-one place)
 
 -- A prefix is what that leaves of it, and the element back at its place.
-pub turned_by_one_and_back : {X : Type 0} (m n place : ℕ) (xs turned : List X) (d : X)
-    → n ≡ length (take m xs)
+pub turned_by_one_and_back : {X : Type 0} (n place : ℕ) (xs turned : List X) (d : X)
     → place < n
+    → n ≤ length xs
     → turned ≡ drop 1 (take (n - place) (drop place xs)) ++ take 1 (take (n - place) (drop place xs))
-    → take m xs ≡ insert (take (n - 1) (put_mid place (n - place) xs turned)) place (get_or xs place d)
-turned_by_one_and_back m n place xs turned d e less is =
-    let l = length-take m xs in
-    let le : n ≤ length xs = omega arith in
+    → take n xs ≡ insert (take (n - 1) (put_mid place (n - place) xs turned)) place (get_or xs place d)
+turned_by_one_and_back n place xs turned d less le is =
     let within : place < length (take n xs) = simp length-take (omega arith) in
     let left : List _ = take (n - 1) (put_mid place (n - place) xs turned) in
-    prefix_is_taken_by_its_length m n xs e
-    ∙ removed_and_back (take n xs) place d within
+    removed_and_back (take n xs) place d within
     ∙ ap (λ ys. insert ys place (get_or (take n xs) place d)) (sym (turned_by_one_removes xs turned n place less le is))
     ∙ ap (insert left place) (get_or-take n xs place d less)

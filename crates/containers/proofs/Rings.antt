@@ -1,20 +1,12 @@
--- The cells of a ring in their order from a head, and what a put and a take do to the first so many of them.
-use Rattle.std.proofs.Common.{◌≡◌, ℕ, suc, ◌+◌, ◌-◌, ◌<◌, ◌≤◌, min, ◌⊎◌, List, [], ◌∷◌, ◌++◌, length, get_or, take, drop, set, sym, ap, ◌∙◌, inl, inr, append_assoc, append-nil, arith, length-append, length-drop}
+-- The cells of a ring in their order from a head, and what a put and a pop do to the first so many of them.
+use Rattle.std.proofs.Common.{◌≡◌, ℕ, suc, ◌+◌, ◌-◌, ◌<◌, ◌≤◌, ◌⊎◌, List, [], ◌∷◌, ◌++◌, length, get_or, take, drop, set, sym, ap, ◌∙◌, inl, inr, append_assoc, append-nil, arith, length-append, length-drop}
 use lib.Seq.{take-set-lt}
-use Rattle.std.proofs.lemmas.List.{drop-set-add, take-set-le, set-append_left, set-append_right, drop-set-lt, length-take, take_more, drop_more, take-append-le, take_all, drop_all}
-use Rattle.containers.proofs.Prefixes.{prefix_is_taken_by_its_length, write_after_prefix_adds_last}
-use Rattle.containers.specs.Queues.{turned, queue_items, queue_room}
-use Rattle.containers.specs.declared.queue.Queue.{Queue}
+use Rattle.std.proofs.lemmas.List.{drop-set-add, take-set-le, set-append_left, set-append_right, drop-set-lt, length-take, take_more, drop_more, take_more_set, take-append-le, take_all, drop_all}
+use Rattle.containers.specs.Rings.{turned}
 
 -- Turning loses no cell.
 pub length-turned : {X : Type 0} (h : ℕ) (cells : List X) → length (turned h cells) ≡ length cells
 length-turned h cells = simp (length-append, length-drop, length-take) (omega arith)
-
--- A queue holds `len` records, and never more than there is room for.
-pub length-queue_items : {X : Type 0} (q : Queue X) → length (queue_items q) ≡ min q.len (queue_room q)
-length-queue_items q =
-    length-take q.len (turned q.head q.cells.now)
-    ∙ ap (min q.len) (length-turned q.head q.cells.now)
 
 -- A head past the last cell is the first cell.
 pub turned_past_the_last : {X : Type 0} (h : ℕ) (cells : List X)
@@ -82,21 +74,17 @@ turned_set h n p cells x lh ln lp (inr e) =
     ∙ turned_set_round h n cells x le ge ln
 
 -- A write at the cell n after the head adds its record to the first n of the ring.
-pub write_after_ring_adds_last : {X : Type 0} (q : Queue X) (h n p : ℕ) (x : X)
-    → turned h q.cells.now ≡ turned q.head q.cells.now
-    → n ≡ length (queue_items q)
-    → h < queue_room q
-    → n < queue_room q
-    → p < queue_room q
-    → (p ≡ h + n) ⊎ (p + queue_room q ≡ h + n)
-    → take (n + 1) (turned h (set q.cells.now p x)) ≡ queue_items q ++ x ∷ []
-write_after_ring_adds_last q h n p x same e lh ln lp cases =
-    let ring = turned q.head q.cells.now in
-    let l = length-turned q.head q.cells.now in
-    let less : n < length ring = omega arith in
-    ap (take (n + 1)) (turned_set h n p q.cells.now x lh ln lp cases)
-    ∙ ap (λ ys. take (n + 1) (set ys n x)) same
-    ∙ write_after_prefix_adds_last q.len n ring x e less
+pub put_joins_ring : {X : Type 0} (h n p : ℕ) (cells : List X) (x : X)
+    → h < length cells
+    → n < length cells
+    → p < length cells
+    → (p ≡ h + n) ⊎ (p + length cells ≡ h + n)
+    → take (n + 1) (turned h (set cells p x)) ≡ take n (turned h cells) ++ x ∷ []
+put_joins_ring h n p cells x lh ln lp cases =
+    let l = length-turned h cells in
+    let less : n < length (turned h cells) = omega arith in
+    ap (take (n + 1)) (turned_set h n p cells x lh ln lp cases)
+    ∙ take_more_set (turned h cells) n x less
 
 -- A head one further on, and one record fewer, drops the first of the first n.
 pub head_further_drops_first : {X : Type 0} (h n : ℕ) (cells : List X) (d : X)
@@ -114,16 +102,19 @@ head_further_drops_first h n cells d lt pos ln =
     ∙ ap (λ ys. first ∷ ys) (sym (take-append-le (n - 1) rest (first ∷ []) l))
     ∙ ap (λ ys. first ∷ take (n - 1) ys) (sym (turned_one_further h cells d lt))
 
--- The records of a queue are the one at the head, and those from the next cell on.
-pub queue_begins_at_head : {X : Type 0} (q : Queue X) (h n : ℕ) (d : X)
-    → turned h q.cells.now ≡ turned q.head q.cells.now
-    → n ≡ length (queue_items q)
-    → h < queue_room q
+-- The head goes to the next cell, round the end of the cells too: the record that it leaves was the first.
+pub pop_leaves_ring : {X : Type 0} (h n p : ℕ) (cells : List X) (d : X)
+    → h < length cells
     → 0 < n
-    → queue_items q ≡ get_or q.cells.now h d ∷ take (n - 1) (turned (h + 1) q.cells.now)
-queue_begins_at_head q h n d same e lt pos =
-    let l = length-queue_items q in
-    let le : n ≤ length q.cells.now = omega arith in
-    prefix_is_taken_by_its_length q.len n (turned q.head q.cells.now) e
-    ∙ ap (take n) (sym same)
-    ∙ head_further_drops_first h n q.cells.now d lt pos le
+    → n ≤ length cells
+    → p < length cells
+    → (p ≡ h + 1) ⊎ (p + length cells ≡ h + 1)
+    → take n (turned h cells) ≡ get_or cells h d ∷ take (n - 1) (turned p cells)
+pop_leaves_ring h n p cells d lt pos ln lp (inl e) =
+    rw e (head_further_drops_first h n cells d lt pos ln)
+pop_leaves_ring h n p cells d lt pos ln lp (inr e) =
+    let first : p ≡ 0 = omega arith in
+    let past : length cells ≤ h + 1 = omega arith in
+    head_further_drops_first h n cells d lt pos ln
+    ∙ ap (λ ys. get_or cells h d ∷ take (n - 1) ys) (turned_past_the_last (h + 1) cells past)
+    ∙ ap (λ k. get_or cells h d ∷ take (n - 1) (turned k cells)) (sym first)

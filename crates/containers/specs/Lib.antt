@@ -1,4 +1,5 @@
 -- What the contracts speak of.
-pub mod Queues
-pub mod Stacks
+pub mod Held
+pub mod Orders
+pub mod Rings
 pub mod Taken

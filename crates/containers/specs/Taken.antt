@@ -1,21 +1,21 @@
--- What a take leaves, from either end or from a place.
-use Rattle.std.specs.Prelude.{◌≡◌, ℕ, Bool, true, false, List, [], ◌∷◌, ◌++◌}
+-- What a container gives, and what that leaves in it.
+use Rattle.std.specs.Prelude.{◌≡◌, ◌<◌, ◌≤◌, ℕ, Bool, true, false, Option, None, Some, List, [], length}
 use Rattle.std.specs.List.{insert}
+use Rattle.containers.specs.Held.{Held}
 
--- A take from the end: where it answers true, the last record has gone from the list into the place;
--- where it answers false, the list and the place are as before.
-abbrev pub TookLast : {X : Type 0} → Bool → List X → List X → X → X → Type 0
-TookLast true before after old new = before ≡ after ++ new ∷ []
-TookLast false before after old new = (after ≡ before) × (new ≡ old)
+-- The record that comes, in the order that `gives` tells, and what it leaves; none comes where none is held, and nothing changes.
+abbrev pub Popped : {T : Type 0} → (gives : T → List T → Type 0) → Option T → (before after : Held T) → Type 0
+Popped gives None before after = (before.items ≡ []) × (after ≡ before)
+Popped gives (Some x) before after = gives x after.items × (after.capacity ≡ before.capacity)
 
--- A take from the front: where it answers true, the first record has gone from the list into the place;
--- where it answers false, the list and the place are as before.
-abbrev pub TookFirst : {X : Type 0} → Bool → List X → List X → X → X → Type 0
-TookFirst true before after old new = before ≡ new ∷ after
-TookFirst false before after old new = (after ≡ before) × (new ≡ old)
+-- The same into a lent place: where none comes, that is as before too.
+abbrev pub Took : {T : Type 0} → (gives : T → List T → Type 0) → Bool → (before after : Held T) → (old new : T) → Type 0
+Took gives true before after old new = Popped gives (Some new) before after
+Took gives false before after old new = Popped gives None before after × (new ≡ old)
 
--- A take from a place: where it answers true, the record at the place has gone from the list into the lent place,
--- so that the list with it back at that place is the list from before; where it answers false, both are as before.
-abbrev pub TookAt : {X : Type 0} → ℕ → Bool → List X → List X → X → X → Type 0
-TookAt place true before after old new = before ≡ insert after place new
-TookAt place false before after old new = (after ≡ before) × (new ≡ old)
+-- The record at a place goes, so that with it back at that place all are there again; past the last place none goes, and
+-- nothing changes.
+abbrev pub Removed : {T : Type 0} → ℕ → Option T → (before after : Held T) → Type 0
+Removed place None before after = (length before.items ≤ place) × (after ≡ before)
+Removed place (Some x) before after =
+    (place < length before.items) × (before.items ≡ insert after.items place x) × (after.capacity ≡ before.capacity)

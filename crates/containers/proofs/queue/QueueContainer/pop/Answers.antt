@@ -1,0 +1,13 @@
+-- The record at the head is the oldest, and the others follow from the next cell on.
+use Rattle.std.proofs.Common.{◌≡◌, ◌-◌, ◌<◌, length, arith, rules}
+use Rattle.containers.proofs.Rings.{pop_leaves_ring}
+use Rattle.containers.proofs.queue.QueueContainer.pop.Goals as goal
+
+pub returns : goal.returns
+returns g c =
+    let q = c.self.inside in
+    let next = c.cell_after-self-inside in
+    let head-less : q.head < length q.cells.now = omega arith in
+    let fewer : c.in_ok-self-inside.field-0 ≡ q.len - 1 = search rules in
+    rw (← c.self.view_is, fewer)
+    (pop_leaves_ring q.head q.len next.result q.cells.now _ head-less (omega arith) (omega arith) next.ensures.bound next.ensures.cases, search rules)
