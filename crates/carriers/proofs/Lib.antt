@@ -1,3 +1,4 @@
 -- The lemmas, by what they are about.
 pub mod Bags
+pub mod Counts
 pub mod Sends

@@ -2,3 +2,4 @@
 pub mod Faults
 pub mod Meaning
 pub mod Orders
+pub mod Picks

@@ -1,5 +1,5 @@
 -- What a carrier means to those who use it, and what a put and a take do to that.
-use Rattle.std.specs.Prelude.{◌≡◌, ℕ, ◌+◌, ◌%◌, ◌^◌, Bool, cond, List, ◌∷◌, ◌++◌, length, MatchBool, nat_lt}
+use Rattle.std.specs.Prelude.{◌≡◌, ℕ, ◌+◌, ◌%◌, ◌^◌, Bool, cond, Option, is_some, List, ◌∷◌, ◌++◌, length, MatchBool, MatchOption, nat_lt}
 use Rattle.std.specs.List.Sorted.{IsPermutation}
 use Rattle.carriers.specs.declared.message.Message.{Message}
 
@@ -24,18 +24,18 @@ pub record Put (before after : Carried) (message : Message) (accepted : Bool) : 
   pub capacity : after.capacity ≡ before.capacity
   pub handed : after.handed ≡ before.handed
 
--- A take into a place that held the message old and holds the message new, and whether one came.
-pub record Took (before after : Carried) (old new : Message) (came : Bool) : Type 0 where
+-- A take, and the message that came, if one did.
+pub record Took (before after : Carried) (came : Option Message) : Type 0 where
   -- none comes exactly when nothing waits
-  pub test : came ≡ nat_lt 0 (length before.waiting)
+  pub test : is_some came ≡ nat_lt 0 (length before.waiting)
   -- those that waited are the one that came and those that wait, in any order; where none came, all is as before
-  pub waiting : MatchBool came (IsPermutation (new ∷ after.waiting) before.waiting) ((after ≡ before) × (new ≡ old))
+  pub waiting : MatchOption came (after ≡ before) (λ message. IsPermutation (message ∷ after.waiting) before.waiting)
   -- one fewer waits where one came
-  pub len : length after.waiting + cond came 1 0 ≡ length before.waiting
+  pub len : length after.waiting + cond (is_some came) 1 0 ≡ length before.waiting
   -- the capacity never changes
   pub capacity : after.capacity ≡ before.capacity
   -- the one that came is counted
-  pub handed : after.handed ≡ cond came ((before.handed + 1) % 2 ^ 32) before.handed
+  pub handed : after.handed ≡ cond (is_some came) ((before.handed + 1) % 2 ^ 32) before.handed
 
 -- Several puts, one after the other, that were all accepted.
 pub record Sent (before after : Carried) (messages : List Message) : Type 0 where

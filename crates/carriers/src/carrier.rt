@@ -4,11 +4,12 @@ ghost use Rattle.carriers.specs.Faults.{carrier_full};
 ghost use Rattle.carriers.specs.Meaning.{Carried, Put, Took};
 
 use crate::message::Message;
+use containers::Full;
 
 const CARRIER_FULL: u8 = 12;
 
 // The refusal of a put: as many messages wait as the carrier's capacity.
-#[derive(Clone, Copy, Drop)]
+#[derive(Clone, Copy, Drop, PartialEq, Eq, Debug)]
 pub struct CarrierFull;
 
 impl CarrierFull {
@@ -17,6 +18,13 @@ impl CarrierFull {
         ensures { result ≡ carrier_full }
     {
         CARRIER_FULL
+    }
+}
+
+// A full container makes a full carrier.
+impl From<Full> for CarrierFull {
+    fn from(_full: Full) -> CarrierFull {
+        CarrierFull
     }
 }
 
@@ -30,9 +38,9 @@ pub trait Carrier {
     fn put(&mut self, message: Message) -> Result<(), CarrierFull>
         ensures put { Put (carried self.old) (carried self.new) message (is_ok result) };
 
-    // Hands out one of the waiting messages, into `out`; where none waits it answers false, and it and `out` stay as they are.
-    fn take(&mut self, out: &mut Message) -> bool
-        ensures took { Took (carried self.old) (carried self.new) out.old out.new result };
+    // Hands out one of the waiting messages; where none waits there is none, and the carrier stays as it is.
+    fn take(&mut self) -> Option<Message>
+        ensures took { Took (carried self.old) (carried self.new) result };
 
     // How many messages wait.
     fn waiting(&self) -> usize

@@ -2,7 +2,6 @@
 ghost use Rattle.std.specs.Prelude.{◌≡◌, ◌+◌, ◌%◌, ◌^◌, [], length};
 
 use crate::carrier::Carrier;
-use crate::message::{Kind, Message, Wait};
 
 // Takes messages until none waits, and answers how many came, modulo 2^32.
 pub fn drain<C: Carrier>(carrier: &mut C) -> u32
@@ -22,12 +21,5 @@ fn take_all<C: Carrier>(carrier: &mut C)
     ensures capacity { (C.Carrier.carried carrier.new).capacity ≡ (C.Carrier.carried carrier.old).capacity }
     ensures handed { (C.Carrier.carried carrier.new).handed % 2 ^ 32 ≡ ((C.Carrier.carried carrier.old).handed + length (C.Carrier.carried carrier.old).waiting) % 2 ^ 32 }
 {
-    let mut message = Message {
-        kind: Kind::Notify,
-        wait: Wait {
-            waiter: 0,
-            target: 0,
-        },
-    };
-    while carrier.take(&mut message) {}
+    while carrier.take().is_some() {}
 }

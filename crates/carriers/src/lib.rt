@@ -2,17 +2,15 @@
 #![tactic(auto)]
 
 mod carrier;
+mod counted;
 mod draining;
 mod message;
-mod picker;
-mod queue;
-mod stack;
+mod picked;
 #[cfg(test)]
 mod tests;
 
 pub use carrier::{Carrier, CarrierFull};
+pub use counted::{Counted, Picker, QueueCarrier, StackCarrier};
 pub use draining::drain;
 pub use message::{Kind, Message, Wait};
-pub use picker::Picker;
-pub use queue::QueueCarrier;
-pub use stack::StackCarrier;
+pub use picked::Picked;

@@ -1,7 +1,7 @@
 // Messages: what the jobs of a table tell each other on their waits.
 
 // The four things that a message can say.
-#[derive(Clone, Copy, Drop)]
+#[derive(Clone, Copy, Drop, PartialEq, Eq, Debug)]
 pub enum Kind {
     Notify,
     Done,
@@ -10,14 +10,14 @@ pub enum Kind {
 }
 
 // The wait (v, u): the job v, the waiter, waits for the job u, its target.
-#[derive(Clone, Copy, Drop)]
+#[derive(Clone, Copy, Drop, PartialEq, Eq, Debug)]
 pub struct Wait {
     pub waiter: u8,
     pub target: u8,
 }
 
 // A message says one thing about one wait.
-#[derive(Clone, Copy, Drop)]
+#[derive(Clone, Copy, Drop, PartialEq, Eq, Debug)]
 pub struct Message {
     pub kind: Kind,
     pub wait: Wait,

@@ -4,7 +4,7 @@ use std::process::Abort;
 
 const CELLS: usize = 4;
 
-// The target of a message that no carrier was given.
+// The target of the message that fills the cells before a carrier is made of them.
 const UNTOUCHED: u8 = 99;
 
 // A message on the wait of the job 7 for the target.
@@ -17,15 +17,14 @@ fn grant(target: u8) -> Message {
 
 // An empty take, messages for the targets 0 to 3, and takes: they come in the given order, and then none.
 fn comes_in_order<C: Carrier>(rt: &impl Abort, carrier: &mut C, order: &[u8]) {
-    let mut out = grant(UNTOUCHED);
-    assert!(rt; !carrier.take(&mut out) && out.wait.target == UNTOUCHED);
+    assert!(rt; carrier.take().is_none());
     for target in [0, 1, 2, 3] {
         assert!(rt; carrier.put(grant(target)).is_ok());
     }
     for target in order {
-        assert!(rt; carrier.take(&mut out) && out.wait.target == *target);
+        assert!(rt; carrier.take() == Some(grant(*target)));
     }
-    assert!(rt; !carrier.take(&mut out));
+    assert!(rt; carrier.take().is_none());
 }
 
 #[test]

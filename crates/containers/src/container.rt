@@ -1,5 +1,5 @@
 // What every container does, whatever the order in which its records come.
-ghost use Rattle.std.specs.Prelude.{◌≡◌, ◌≤◌, List, ◌∷◌, length, is_ok, if◌then◌else◌};
+ghost use Rattle.std.specs.Prelude.{◌≡◌, ◌≤◌, ◌∷◌, length, is_ok, if◌then◌else◌};
 ghost use Rattle.std.specs.List.Sorted.{IsPermutation};
 ghost use Rattle.containers.specs.Held.{Held, has_room, with_last};
 ghost use Rattle.containers.specs.Taken.{Popped, Took};
@@ -13,8 +13,11 @@ pub trait Container<T: Copy> {
     // The records that it holds, in the order in which they were put, and how many it can hold.
     ghost held: { Self → Held T };
 
+    // What a put leaves as it is, besides the records that are held.
+    ghost keeps: { Self → Self → Type 0 };
+
     // Which record comes next, and what it leaves: the container's order.
-    ghost gives: { Self → T → List T → Type 0 };
+    ghost gives: { Self → T → Self → Type 0 };
 
     // How many records it holds.
     fn len(&self) -> usize
@@ -28,15 +31,16 @@ pub trait Container<T: Copy> {
     // Puts the record last; a full container refuses it and stays as it is.
     fn put(&mut self, element: T) -> Result<(), Full>
         ensures test { is_ok result ≡ has_room (held self.old) }
-        ensures after { held self.new ≡ (if is_ok result then with_last (held self.old) element else held self.old) };
+        ensures after { held self.new ≡ (if is_ok result then with_last (held self.old) element else held self.old) }
+        ensures beside { keeps self.old self.new };
 
     // The record that comes next; an empty container gives none, and stays as it is.
     fn pop(&mut self) -> Option<T>
-        ensures { Popped (gives self.old) result (held self.old) (held self.new) };
+        ensures { Popped held gives result self.old self.new };
 
     // The same into a lent place; where none comes, it answers false, and that place stays as it is too.
     fn take(&mut self, out: &mut T) -> bool
-        ensures { Took (gives self.old) result (held self.old) (held self.new) out.old out.new }
+        ensures { Took held gives result self.old self.new out.old out.new }
     {
         let Some(element) = self.pop() else {
             return false;
@@ -46,5 +50,5 @@ pub trait Container<T: Copy> {
     }
 
     // No record is lost: those held are the one that comes and those that it leaves.
-    ghost loses_none: { (s : Self) (x : T) (rest : List T) → gives s x rest → IsPermutation (x ∷ rest) (held s).items };
+    ghost loses_none: { (s : Self) (x : T) (t : Self) → gives s x t → IsPermutation (x ∷ (held t).items) (held s).items };
 }

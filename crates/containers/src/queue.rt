@@ -42,7 +42,9 @@ impl<'a, T: Copy> Queue<'a, T> {
 impl<'a, T: Copy> Container<T> for Queue<'a, T> {
     ghost held = { λ q. q };
 
-    ghost gives = { λ q x rest. q.items ≡ x ∷ rest };
+    ghost keeps = { λ _ _. Unit {0} };
+
+    ghost gives = { λ q x r. q.items ≡ x ∷ r.items };
 
     ghost loses_none = { first_loses_none };
 

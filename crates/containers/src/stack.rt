@@ -59,7 +59,9 @@ impl<'a, T: Copy> Stack<'a, T> {
 impl<'a, T: Copy> Container<T> for Stack<'a, T> {
     ghost held = { λ s. s };
 
-    ghost gives = { λ s x rest. s.items ≡ rest ++ x ∷ [] };
+    ghost keeps = { λ _ _. Unit {0} };
+
+    ghost gives = { λ s x t. s.items ≡ t.items ++ x ∷ [] };
 
     ghost loses_none = { last_loses_none };
 

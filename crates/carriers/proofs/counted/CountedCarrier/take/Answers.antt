@@ -1,0 +1,10 @@
+-- The container loses no message but the one that comes.
+use Rattle.std.proofs.Common.{rules}
+use Rattle.carriers.proofs.Counts.{took_one}
+use Rattle.carriers.proofs.counted.CountedCarrier.take.Goals as goal
+
+pub returns-clause-took : goal.returns-clause-took
+returns-clause-took g c =
+    let popped = c.in_ok-message.ensures in
+    let loses_none = g.met.C.Container.loses_none in
+    search (rules, took_one)
