@@ -1,4 +1,3 @@
 -- The lemmas, by what they are about.
-pub mod Bags
 pub mod Counts
 pub mod Sends

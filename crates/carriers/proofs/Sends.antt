@@ -2,10 +2,9 @@
 use Rattle.std.proofs.Common.{◌≡◌, ◌+◌, ◌<◌, Bool, true, false, List, [], ◌∷◌, ◌++◌, length, sym, refl, ◌∙◌, subst, arith, ltb-false}
 use Rattle.std.specs.List.Sorted.{IsPermutation}
 use Rattle.std.proofs.lemmas.List.{append_assoc, append-nil, length-append}
-use Rattle.std.proofs.lemmas.List.Sorted.{length_permutation, IsPermutation-refl, IsPermutation-trans, IsPermutation-to_front}
+use Rattle.std.proofs.lemmas.List.Sorted.{length_permutation, IsPermutation-refl, IsPermutation-trans, IsPermutation-to_front, IsPermutation-append_left}
 use Rattle.carriers.specs.Meaning.{Carried, Put, Sent}
 use Rattle.carriers.specs.declared.message.Message.{Message}
-use Rattle.carriers.proofs.Bags.{shuffled_after}
 
 -- No put changes nothing.
 pub sent_none : (before : Carried) → Sent before before []
@@ -35,7 +34,7 @@ pub sent_more : (before between after : Carried) (first then : List Message)
 sent_more before between after first then a b = record {
   waiting = IsPermutation-trans (before.waiting ++ (first ++ then)) (between.waiting ++ then) after.waiting
       (subst (λ (xs : List Message). IsPermutation xs (between.waiting ++ then)) (append_assoc before.waiting first then)
-      (shuffled_after (before.waiting ++ first) between.waiting then a.waiting))
+      (IsPermutation-append_left then (before.waiting ++ first) between.waiting a.waiting))
       b.waiting;
   capacity = b.capacity ∙ a.capacity;
   handed = b.handed ∙ a.handed;
