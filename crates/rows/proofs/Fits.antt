@@ -1,5 +1,5 @@
 -- Rising targets, and targets that fit.
-use Rattle.std.proofs.Common.{◌≡◌, ℕ, zero, suc, ◌+◌, ◌<◌, ◌≤◌, true, false, not, eqb, leb, List, [], ◌∷◌, length, is_some, None, sym, refl, ⊎_elim, arith}
+use Rattle.std.proofs.Common.{◌≡◌, ℕ, zero, suc, ◌+◌, ◌<◌, ◌≤◌, true, false, not, eqb, leb, List, [], ◌∷◌, length, is_some, None, sym, refl, ap, ◌∙◌, ⊎_elim, arith}
 use Rattle.std.proofs.lemmas.Bool.{cases_Bool, cases_eq, and_parts, and_from, leb-true, le-leb, true≢false}
 use Rattle.std.proofs.lemmas.Bool.Decides.{nat_tests}
 use Rattle.std.specs.List.{remove}
@@ -17,7 +17,7 @@ without_is_one_shorter u (t ∷ ts) a =
     (cases_Bool (eqb t u))
 
 -- Rising.
-rising_from_lower : (lower low : ℕ) (ts : List ℕ) → lower ≤ low → rising low ts ≡ true → rising lower ts ≡ true
+pub rising_from_lower : (lower low : ℕ) (ts : List ℕ) → lower ≤ low → rising low ts ≡ true → rising lower ts ≡ true
 rising_from_lower lower low [] l h = refl
 rising_from_lower lower low (t ∷ ts) l h =
     let p = and_parts (leb low t) (rising (t + 1) ts) h in
@@ -55,14 +55,6 @@ fitting_rises n job low (t ∷ ts) h =
     let p = and_parts (target_fits n job low t) (targets_fit n job (t + 1) ts) h in
     and_from (leb low t) (rising (t + 1) ts) (le-leb low t (target_fit_tells n job low t p.0).above) (fitting_rises n job (t + 1) ts p.1)
 
-pub none_wrong_fits : (n job low place : ℕ) (ts : List ℕ) → first_wrong n job low place ts ≡ None → targets_fit n job low ts ≡ true
-none_wrong_fits n job low place [] h = refl
-none_wrong_fits n job low place (t ∷ ts) h =
-    ⊎_elim
-    (λ (e : target_fits n job low t ≡ true). rw e (none_wrong_fits n job (t + 1) (place + 1) ts (rw e at h)))
-    (λ (e : target_fits n job low t ≡ false). let z : ◌≡◌ {A = ℕ} 0 1 = cc (rw e at h) in absurd (omega arith))
-    (cases_Bool (target_fits n job low t))
-
 pub fits_where_none_is_wrong : (n job low place : ℕ) (ts : List ℕ) → targets_fit n job low ts ≡ not (is_some (first_wrong n job low place ts))
 fits_where_none_is_wrong n job low place [] = refl
 fits_where_none_is_wrong n job low place (t ∷ ts) =
@@ -70,6 +62,9 @@ fits_where_none_is_wrong n job low place (t ∷ ts) =
     (λ (e : target_fits n job low t ≡ true). rw e (fits_where_none_is_wrong n job (t + 1) (place + 1) ts))
     (λ (e : target_fits n job low t ≡ false). rw e)
     (cases_Bool (target_fits n job low t))
+
+pub none_wrong_fits : (n job low place : ℕ) (ts : List ℕ) → first_wrong n job low place ts ≡ None → targets_fit n job low ts ≡ true
+none_wrong_fits n job low place ts h = fits_where_none_is_wrong n job low place ts ∙ ap (λ found. not (is_some found)) h
 
 fits_from_lower : (n job lower low : ℕ) (ts : List ℕ) → lower ≤ low → targets_fit n job low ts ≡ true → targets_fit n job lower ts ≡ true
 fits_from_lower n job lower low [] l h = refl

@@ -1,6 +1,7 @@
--- The lemmas, by topic; crates above cite Counts and Laws.
+-- The lemmas, by topic; crates above cite Counts, Fits, Laws and Reading.
+pub mod Reading
 mod Scans
 pub mod Counts
-mod Fits
+pub mod Fits
 mod Stored
 pub mod Laws

@@ -1,83 +1,59 @@
--- Looking through targets: reading one, and the turns of each scan.
-use Rattle.std.proofs.Common.{◌≡◌, ℕ, zero, suc, ◌+◌, ◌<◌, ◌≤◌, true, false, cond, eqb, List, [], ◌∷◌, length, get_or, drop, Some, None, Option, sym, refl, ap, ◌∙◌, subst, ⊎_elim, arith, Bor}
-use Rattle.std.proofs.lemmas.List.{at_drop_more}
-use Rattle.std.proofs.lemmas.Bool.{cases_Bool, eq-eqb, ne_eqb, le-leb, lt-leb}
-use Rattle.std.specs.Option.{option_map}
-use Rattle.std.specs.Slice.{IsGetResult}
-use Rattle.rows.specs.Waiting.{among, target_at}
-use Rattle.rows.specs.Law.{rising, target_fits}
-use Rattle.rows.specs.Changes.{first_wrong}
+-- Looking through targets: what the scans find.
+use Rattle.std.proofs.Common.{◌≡◌, ℕ, zero, suc, ◌+◌, ◌<◌, ◌≤◌, true, false, Bool, eqb, leb, ltb, List, [], ◌∷◌, length, get_or, position, Some, Option, sym, refl, ap, inl, inr, ⊎_elim, arith}
+use Rattle.std.proofs.lemmas.Bool.{cases_Bool, cases_lt, and_from, le-leb, lt-ltb, le-ltb}
+use Rattle.std.proofs.lemmas.Bool.Decides.{nat_tests}
+use Rattle.std.specs.List.{AllAdjacentBelow, IsAllAdjacentAnswer, position_or_len}
+use Rattle.rows.specs.Waiting.{among}
+use Rattle.rows.specs.Law.{rising}
 use Rattle.rows.specs.Places.{Placed}
 
--- Reading a target.
-target_at_in : (ts : List ℕ) (place d : ℕ) → place < length ts → target_at ts place ≡ Some (get_or ts place d)
-target_at_in [] place d l = absurd (omega arith)
-target_at_in (t ∷ ts) zero d l = refl
-target_at_in (t ∷ ts) (suc place) d l = target_at_in ts place d (omega arith)
+-- Rising: each target is below the next.
+suc_plus_one : (k : ℕ) → suc k + 1 ≡ suc (k + 1)
+suc_plus_one k = omega arith
 
-target_at_past : (ts : List ℕ) (place : ℕ) → length ts ≤ place → target_at ts place ≡ None
-target_at_past [] place l = refl
-target_at_past (t ∷ ts) zero l = absurd (omega arith)
-target_at_past (t ∷ ts) (suc place) l = target_at_past ts place (omega arith)
+neighbours_rise : (x : ℕ) (xs : List ℕ) → AllAdjacentBelow (λ before after. true ≡ ltb before after) (x ∷ xs) (length (x ∷ xs)) → rising (x + 1) xs ≡ true
+neighbours_rise x [] h = refl
+neighbours_rise x (y ∷ ys) h =
+    let first : leb (x + 1) y ≡ true = grind (arith, nat_tests, h 0 0 (omega arith)) in
+    and_from (leb (x + 1) y) (rising (y + 1) ys) first (neighbours_rise y ys (λ k d l. rw (suc_plus_one k) at (h (suc k) d (omega arith))))
 
-pub item_is_target : (ts : List ℕ) (place : ℕ) (item : Option (Bor ℕ)) → IsGetResult ts place place item → option_map (λ x. x.now) item ≡ target_at ts place
-item_is_target ts place None h = sym (target_at_past ts place h.3)
-item_is_target ts place (Some x) h = ap (λ (t : ℕ). Some t) h.1 ∙ sym (target_at_in ts place x.now h.3.0)
+neighbours_fall : (x : ℕ) (xs : List ℕ) (k : ℕ) → k + 1 < length (x ∷ xs) → ((d : ℕ) → false ≡ ltb (get_or (x ∷ xs) k d) (get_or (x ∷ xs) (k + 1) d)) → rising (x + 1) xs ≡ false
+neighbours_fall x [] k l h = absurd (omega arith)
+neighbours_fall x (y ∷ ys) zero l h =
+    let first : leb (x + 1) y ≡ false = grind (arith, nat_tests, h 0) in
+    rw first
+neighbours_fall x (y ∷ ys) (suc k) l h = grind (arith, neighbours_fall y ys k (omega arith) (λ d. rw (suc_plus_one k) at (h d)))
 
--- Rising.
-pub rising_stops : (low i : ℕ) (ts : List ℕ) → i < length ts → get_or ts i 0 < low → rising low (drop i ts) ≡ false
-rising_stops low i ts h l = at_drop_more (rising low) ts i 0 h ∙ rw (lt-leb low (get_or ts i 0) l)
+pub rising_where_neighbours_rise : (ts : List ℕ) (r : Bool) → IsAllAdjacentAnswer (λ before after b. b ≡ ltb before after) ts r → r ≡ rising 0 ts
+rising_where_neighbours_rise [] true h = refl
+rising_where_neighbours_rise [] false h = absurd (omega (arith, h.1))
+rising_where_neighbours_rise (t ∷ ts) true h = rw (le-leb 0 t (omega arith)) (sym (neighbours_rise t ts h))
+rising_where_neighbours_rise (t ∷ ts) false h = rw (le-leb 0 t (omega arith)) (sym (neighbours_fall t ts h.0 h.1 h.2))
 
-pub rising_goes_on : (low i : ℕ) (ts : List ℕ) → i < length ts → low ≤ get_or ts i 0 → rising low (drop i ts) ≡ rising (get_or ts i 0 + 1) (drop (i + 1) ts)
-rising_goes_on low i ts h l = at_drop_more (rising low) ts i 0 h ∙ rw (le-leb low (get_or ts i 0) l)
-
--- The first wrong target.
-pub first_wrong_here : (n job low place i : ℕ) (ts : List ℕ) → i < length ts → target_fits n job low (get_or ts i 0) ≡ false → first_wrong n job low place (drop i ts) ≡ Some place
-first_wrong_here n job low place i ts h e = at_drop_more (first_wrong n job low place) ts i 0 h ∙ rw e
-
-pub first_wrong_later : (n job low place i : ℕ) (ts : List ℕ) → i < length ts → target_fits n job low (get_or ts i 0) ≡ true → first_wrong n job low place (drop i ts) ≡ first_wrong n job (get_or ts i 0 + 1) (place + 1) (drop (i + 1) ts)
-first_wrong_later n job low place i ts h e = at_drop_more (first_wrong n job low place) ts i 0 h ∙ rw e
-
--- The place of a job: `place` is the place of the list's head.
-abbrev pub place_of : (u place : ℕ) → List ℕ → Option ℕ
-place_of u place [] = None
-place_of u place (t ∷ ts) = cond (eqb t u) (Some place) (place_of u (place + 1) ts)
-
-pub place_here : (u place i : ℕ) (ts : List ℕ) → i < length ts → get_or ts i 0 ≡ u → place_of u place (drop i ts) ≡ Some place
-place_here u place i ts h e = at_drop_more (place_of u place) ts i 0 h ∙ rw (eq-eqb (get_or ts i 0) u e)
-
-pub place_later : (u place i : ℕ) (ts : List ℕ) → i < length ts → (get_or ts i 0 ≡ u → ⊥) → place_of u place (drop i ts) ≡ place_of u (place + 1) (drop (i + 1) ts)
-place_later u place i ts h e = at_drop_more (place_of u place) ts i 0 h ∙ rw (ne_eqb (get_or ts i 0) u e)
-
-not_among_from_none : (u place : ℕ) (ts : List ℕ) → place_of u place ts ≡ None → among u ts ≡ false
-not_among_from_none u place [] h = refl
-not_among_from_none u place (t ∷ ts) h =
+-- The place of a job: the first position at which it stands.
+first_position_is_placed : (u : ℕ) (ts : List ℕ) → position_or_len (λ t. eqb t u) ts < length ts → Placed u ts (Some (position_or_len (λ t. eqb t u) ts))
+first_position_is_placed u [] l = absurd (omega arith)
+first_position_is_placed u (t ∷ ts) l =
     ⊎_elim
-    (λ (e : eqb t u ≡ true). let z : ◌≡◌ {A = ℕ} 0 1 = cc (rw e at h) in absurd (omega arith))
-    (λ (e : eqb t u ≡ false). rw e (not_among_from_none u (place + 1) ts (rw e at h)))
-    (cases_Bool (eqb t u))
-
--- A found place is `ahead` of the head's.
-record Found (u place found : ℕ) (ts : List ℕ) : Type 0 where
-  pub ahead : ℕ
-  pub is : found ≡ place + ahead
-  pub placed : Placed u ts (Some ahead)
-
-found_from_some : (u place found : ℕ) (ts : List ℕ) → place_of u place ts ≡ Some found → Found u place found ts
-found_from_some u place found [] h = let z : ◌≡◌ {A = ℕ} 0 1 = cc h in absurd (omega arith)
-found_from_some u place found (t ∷ ts) h =
-    ⊎_elim
-    (λ (e : eqb t u ≡ true).
-    let q : place ≡ found = cc (rw e at h) in
-    record { ahead = 0; is = omega arith; placed = (rw e, omega arith, rw e) })
+    (λ (e : eqb t u ≡ true). rw e (refl, omega arith, refl))
     (λ (e : eqb t u ≡ false).
-    let f = found_from_some u (place + 1) found ts (rw e at h) in
-    record { ahead = suc f.ahead; is = omega (arith, f.is); placed = (rw e f.placed.0, omega (arith, f.placed.1), rw e (ap (λ us. t ∷ us) f.placed.2)) })
+    let p = first_position_is_placed u ts (omega (arith, rw e at l)) in
+    let next : 1 + position_or_len (λ t. eqb t u) ts ≡ suc (position_or_len (λ t. eqb t u) ts) = omega arith in
+    rw (e, next) (p.0, omega (arith, p.1), ap (λ us. t ∷ us) p.2))
     (cases_Bool (eqb t u))
 
-pub place_of_placed : (u : ℕ) (ts : List ℕ) (found : Option ℕ) → found ≡ place_of u 0 ts → Placed u ts found
-place_of_placed u ts None h = not_among_from_none u 0 ts (sym h)
-place_of_placed u ts (Some place) h =
-    let f = found_from_some u 0 place ts (sym h) in
-    let e : f.ahead ≡ place = omega (arith, f.is) in
-    subst (λ k. Placed u ts (Some k)) e f.placed
+not_among_where_no_position : (u : ℕ) (ts : List ℕ) → length ts ≤ position_or_len (λ t. eqb t u) ts → among u ts ≡ false
+not_among_where_no_position u [] l = refl
+not_among_where_no_position u (t ∷ ts) l =
+    ⊎_elim
+    (λ (e : eqb t u ≡ true). absurd (omega (arith, rw e at l)))
+    (λ (e : eqb t u ≡ false). rw e (not_among_where_no_position u ts (omega (arith, rw e at l))))
+    (cases_Bool (eqb t u))
+
+pub position_is_placed : (u : ℕ) (ts : List ℕ) (found : Option ℕ) → found ≡ position (λ t. eqb t u) ts → Placed u ts found
+position_is_placed u ts found h =
+    let first = position_or_len (λ t. eqb t u) ts in
+    elim (cases_lt first (length ts)) [
+      | inl l ↦ rw (h, lt-ltb first (length ts) l) (first_position_is_placed u ts l)
+      | inr l ↦ rw (h, le-ltb first (length ts) l) (not_among_where_no_position u ts l)
+    ]

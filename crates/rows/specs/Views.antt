@@ -1,11 +1,12 @@
 -- What the rows of the program stand for.
-use Rattle.std.specs.Prelude.{ℕ, Bool, cond, ◌&&◌, List, length, Some, None, Ok, Err, Option, Result, nat_le}
+use Rattle.std.specs.Prelude.{◌≡◌, ℕ, Bool, true, false, cond, ◌&&◌, List, length, Some, None, Ok, Err, Option, Result, MatchResult, nat_le}
 use Rattle.rows.specs.declared.plain.PlainRow.{PlainRow}
 use Rattle.rows.specs.declared.plain.Row.{Row}
+use Rattle.rows.specs.declared.plain.LawBroken.{LawBroken}
 use Rattle.rows.specs.declared.plain.RowFault.{RowFault}
 use Rattle.rows.specs.declared.plain.RowFault.TheVariants.{WrongCounts, WrongTarget}
 use Rattle.rows.specs.Waiting.{Waiting, among}
-use Rattle.rows.specs.Law.{targets_max, row_fits, stored}
+use Rattle.rows.specs.Law.{targets_max, row_fits, stored, sound}
 use Rattle.rows.specs.Changes.{wrong_counts, first_wrong, granted}
 
 -- What a stored row says.
@@ -15,6 +16,15 @@ waiting p = stored p.need p.count p.targets
 -- What a checked row says.
 abbrev pub waiting_of : Row → Waiting
 waiting_of r = waiting r.plain
+
+-- A stored row is refused where it is not sound, and else the checked row holds it as it is.
+abbrev pub Checked : PlainRow → Result Row LawBroken → Type 0
+Checked p r = MatchResult r (λ row. (sound p.need p.count p.targets ≡ true) × (row.plain ≡ p)) (λ e. sound p.need p.count p.targets ≡ false)
+
+-- A checked row is stored as it is held, and that is sound.
+pub record StoredWhole (r : Row) (p : PlainRow) : Type 0 where
+  pub value : p ≡ r.plain
+  pub lawful : sound p.need p.count p.targets ≡ true
 
 -- The law of a stored row of `job`, one of n jobs.
 abbrev pub plain_fits : (n job : ℕ) → PlainRow → Bool

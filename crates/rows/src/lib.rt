@@ -7,4 +7,4 @@ mod plain;
 mod tests;
 
 pub use parts::row_fits;
-pub use plain::{PlainRow, Row, RowFault, TARGETS_MAX};
+pub use plain::{LawBroken, PlainRow, Row, RowFault, TARGETS_MAX};

@@ -2,25 +2,24 @@
 ghost use Rattle.std.specs.Prelude.{◌≡◌, ◌-◌, ◌<◌, ◌≤◌, length, take};
 ghost use Rattle.std.specs.List.{remove};
 ghost use Rattle.rows.specs.Waiting.{target_at};
-ghost use Rattle.rows.specs.Law.{targets_max, rising, row_fits};
+ghost use Rattle.rows.specs.Law.{targets_max, counts_fit, rising, row_fits};
 ghost use Rattle.rows.specs.Changes.{first_wrong};
 ghost use Rattle.rows.specs.Places.{Placed};
 
 use crate::plain::TARGETS_MAX;
 
+// Whether a row may have this need and so many targets.
+pub fn counts_fit(need: u8, count: usize) -> bool
+    ensures { result ≡ counts_fit need count }
+{
+    count <= TARGETS_MAX && need as usize <= count && (need > 0 || count == 0)
+}
+
 // Whether each target is above the one before it.
 pub fn rises(targets: &[u8]) -> bool
     ensures { result ≡ rising 0 targets.now }
 {
-    let mut low: usize = 0;
-    for target in targets {
-        let target = *target as usize;
-        if target < low {
-            return false;
-        }
-        low = target + 1;
-    }
-    true
+    targets.is_sorted_by(|before, after| before < after)
 }
 
 // The target at a place; past the last, none.
@@ -34,18 +33,14 @@ pub fn target_at(targets: &[u8], place: usize) -> Option<u8>
 pub fn place_of(targets: &[u8], job: usize) -> Option<usize>
     ensures { Placed job targets.now result }
 {
-    for (place, target) in targets.iter().enumerate() {
-        if *target as usize == job {
-            return Some(place);
-        }
-    }
-    None
+    targets.iter().position(|target| *target as usize == job)
 }
 
 // The place of the first target that is not below `jobs`, is the job itself, or is not above the one before it.
 pub fn first_wrong(jobs: usize, job: usize, targets: &[u8]) -> Option<usize>
     ensures { result ≡ first_wrong jobs job 0 0 targets.now }
 {
+    // a `for`, since each test needs the target before: a chain would hide that in a captured variable
     let mut low: usize = 0;
     for (place, target) in targets.iter().enumerate() {
         let target = *target as usize;
@@ -61,11 +56,7 @@ pub fn first_wrong(jobs: usize, job: usize, targets: &[u8]) -> Option<usize>
 pub fn row_fits(jobs: usize, job: usize, need: u8, targets: &[u8]) -> bool
     ensures { result ≡ row_fits jobs job (record { need = need; targets = targets.now }) }
 {
-    let count = targets.len();
-    if count > TARGETS_MAX || need as usize > count || (need == 0 && count > 0) {
-        return false;
-    }
-    first_wrong(jobs, job, targets).is_none()
+    counts_fit(need, targets.len()) && first_wrong(jobs, job, targets).is_none()
 }
 
 // The targets at the first places.
@@ -74,9 +65,7 @@ pub fn padded(targets: &[u8]) -> [u8; TARGETS_MAX]
     ensures { take (length targets.now) result ≡ targets.now }
 {
     let mut places = [0; TARGETS_MAX];
-    for i in 0..targets.len() {
-        places[i] = targets[i];
-    }
+    places[..targets.len()].copy_from_slice(targets);
     places
 }
 
@@ -86,12 +75,7 @@ pub fn without_place(targets: &[u8], place: usize) -> [u8; TARGETS_MAX]
     ensures { take (length targets.now - 1) result ≡ remove targets.now place }
 {
     let mut places = [0; TARGETS_MAX];
-    for i in 0..targets.len() - 1 {
-        places[i] = if i < place {
-            targets[i]
-        } else {
-            targets[i + 1]
-        };
-    }
+    places[..place].copy_from_slice(&targets[..place]);
+    places[place..targets.len() - 1].copy_from_slice(&targets[place + 1..]);
     places
 }

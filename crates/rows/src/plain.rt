@@ -10,7 +10,7 @@ ghost use Rattle.rows.specs.Law.{sound};
 pub const TARGETS_MAX: usize = 16;
 
 // A row as it is stored: the first `count` of the targets are in use.
-#[derive(Clone, Copy)]
+#[derive(Clone, Copy, Debug, PartialEq, Eq)]
 pub struct PlainRow {
     pub need: u8,
     pub count: u8,
@@ -18,14 +18,18 @@ pub struct PlainRow {
 }
 
 // A row whose type carries the law: a need of at most the count, at most 16 targets in use, and these rising.
-#[derive(Clone, Copy)]
+#[derive(Clone, Copy, Debug, PartialEq, Eq)]
 pub struct Row {
     plain: PlainRow,
     ghost lawful: { sound plain.need plain.count plain.targets ≡ true },
 }
 
+// A stored row that breaks the law is no row.
+#[derive(Clone, Copy, Debug, PartialEq, Eq)]
+pub struct LawBroken;
+
 // Why a request makes no row: its counts, or the target at a place.
-#[derive(Clone, Copy, PartialEq, Eq)]
+#[derive(Clone, Copy, Debug, PartialEq, Eq)]
 pub enum RowFault {
     WrongCounts,
     WrongTarget(usize),

@@ -109,7 +109,7 @@ impl<'a> Book<'a> {
         ensures value { told result ≡ (if full (book_state self.old).room (face (book_state self.old)) then stop TrailFull else done) }
         ensures after { book_state self.new ≡ (if full (book_state self.old).room (face (book_state self.old)) then book_state self.old else written (book_state self.old) job (waiting_of row)) }
     {
-        if self.groups.write(job as u8, row.plain()) {
+        if self.groups.write(job as u8, PlainRow::from(row)) {
             Ok(())
         } else {
             Err(BookFault::TrailFull)

@@ -24,7 +24,7 @@ impl<'a> Book<'a> {
         ensures { waiting_of result ≡ at (book_state self.now).rows job }
     {
         if job < self.jobs {
-            if let Some(row) = Row::checked(self.groups.row(job as u8)) {
+            if let Ok(row) = Row::try_from(self.groups.row(job as u8)) {
                 return row;
             }
         }

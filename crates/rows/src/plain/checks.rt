@@ -1,11 +1,11 @@
 // From a stored row to a checked one, and back.
-ghost use Rattle.std.specs.Prelude.{◌≡◌, true, false, MatchOption};
+ghost use Rattle.std.specs.Prelude.{◌≡◌, true};
 ghost use Rattle.rows.specs.Law.{sound};
 ghost use Rattle.rows.specs.Waiting.{idle};
-ghost use Rattle.rows.specs.Views.{waiting, waiting_of};
+ghost use Rattle.rows.specs.Views.{waiting, waiting_of, Checked, StoredWhole};
 
-use crate::parts::rises;
-use crate::plain::{PlainRow, Row, TARGETS_MAX};
+use crate::parts::{counts_fit, rises};
+use crate::plain::{LawBroken, PlainRow, Row, TARGETS_MAX};
 
 impl PlainRow {
     // The stored row of an active job.
@@ -30,26 +30,28 @@ impl Row {
             plain: PlainRow::idle(),
         }
     }
+}
 
-    // The stored row with its law, or none where it breaks the law.
-    pub fn checked(plain: PlainRow) -> Option<Row>
-        ensures { MatchOption result (sound plain.need plain.count plain.targets ≡ false) (λ row. (sound plain.need plain.count plain.targets ≡ true) × (row.plain ≡ plain)) }
-    {
+// A stored row gets its law by a check, and is refused where it breaks the law.
+impl TryFrom<PlainRow> for Row {
+    type Error = LawBroken;
+
+    ghost try_from_gives = { Checked };
+
+    fn try_from(plain: PlainRow) -> Result<Row, LawBroken> {
         let count = plain.count as usize;
-        if count > TARGETS_MAX || plain.need > plain.count || (plain.need == 0 && count > 0) {
-            return None;
+        if !counts_fit(plain.need, count) || !rises(&plain.targets[..count]) {
+            return Err(LawBroken);
         }
-        if !rises(&plain.targets[..count]) {
-            return None;
-        }
-        Some(Row { plain })
+        Ok(Row { plain })
     }
+}
 
-    // The row as it is stored, whole.
-    pub fn plain(&self) -> PlainRow
-        ensures value { result ≡ self.now.plain }
-        ensures lawful { sound result.need result.count result.targets ≡ true }
-    {
-        self.plain
+// The row as it is stored, whole.
+impl From<Row> for PlainRow {
+    ghost from_gives = { StoredWhole };
+
+    fn from(row: Row) -> PlainRow {
+        row.plain
     }
 }

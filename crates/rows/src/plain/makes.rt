@@ -3,8 +3,8 @@ ghost use Rattle.std.specs.Prelude.{◌≡◌, ◌-◌, ◌<◌, length};
 ghost use Rattle.std.specs.List.{remove};
 ghost use Rattle.rows.specs.Views.{waiting_of, seen, seen_some, requested, granted_by};
 
-use crate::parts::{first_wrong, padded, place_of, without_place};
-use crate::plain::{PlainRow, Row, RowFault, TARGETS_MAX};
+use crate::parts::{counts_fit, first_wrong, padded, place_of, without_place};
+use crate::plain::{PlainRow, Row, RowFault};
 
 impl Row {
     // The row of a request by `job`, one of `jobs` jobs.
@@ -12,7 +12,7 @@ impl Row {
         ensures { seen result ≡ requested jobs job need targets.now }
     {
         let count = targets.len();
-        if count == 0 || count > TARGETS_MAX || need == 0 || need as usize > count {
+        if need == 0 || !counts_fit(need, count) {
             return Err(RowFault::WrongCounts);
         }
         if let Some(place) = first_wrong(jobs, job, targets) {

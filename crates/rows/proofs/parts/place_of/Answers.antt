@@ -1,19 +1,14 @@
--- The search for a place, turn by turn.
-use Rattle.std.proofs.Common.{Some, None, sym, ◌∙◌}
-use Rattle.std.proofs.lemmas.List.{at_drop_all}
-use Rattle.rows.proofs.Scans.{place_of, place_here, place_later, place_of_placed}
+-- The position of a job is the place of the first target that is the job.
+use Rattle.std.proofs.Common.{ℕ, Bool, eqb, rules}
+use Rattle.std.proofs.lemmas.Iterator.{YieldsList-from_slice}
+use Rattle.std.proofs.lemmas.Iterator.Search.{position_from_yields_List}
+use Rattle.rows.proofs.Scans.{position_is_placed}
 use Rattle.rows.proofs.parts.place_of.Goals as goal
-
-pub returns-then-target-job : goal.returns-then-target-job
-returns-then-target-job c =
-    place_of_placed c.args.job c.args.targets.now (Some c.loop-place.place)
-    (sym (place_here c.args.job c.loop-place.place c.loop-place.place c.args.targets.now c.loop-place-test.true c.if-target-job.true) ∙ c.loop-place.invariant)
-
-pub loop-place-preserved : goal.loop-place-preserved
-loop-place-preserved c =
-    sym (place_later c.args.job c.loop-place.place c.loop-place.place c.args.targets.now c.loop-place-test.true c.if-target-job.false) ∙ c.loop-place.invariant
+use borrow.Author.Tests.{tests}
 
 pub returns : goal.returns
 returns c =
-    place_of_placed c.args.job c.args.targets.now None
-    (sym (at_drop_all (place_of c.args.job c.loop-place.place) c.args.targets.now c.loop-place.place c.loop-place-test.false) ∙ c.loop-place.invariant)
+    let targets = c.args.targets.now in
+    let is_job : ℕ → Bool = λ t. eqb t c.args.job in
+    position_is_placed c.args.job targets c.position.result
+    (position_from_yields_List is_job _ _ c.position.result c.position.ensures.ran (YieldsList-from_slice targets cc) (λ x b q k. search (rules, tests)))

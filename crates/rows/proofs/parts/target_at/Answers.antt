@@ -1,6 +1,6 @@
 -- The item of a slice is the target at the place.
 use Rattle.std.proofs.Common.{◌∙◌}
-use Rattle.rows.proofs.Scans.{item_is_target}
+use Rattle.rows.proofs.Reading.{item_is_target}
 use Rattle.rows.proofs.parts.target_at.Goals as goal
 
 pub returns : goal.returns

@@ -6,10 +6,10 @@ use Rattle.book.proofs.Seen.{at_seen, at_beyond, sound_at}
 use Rattle.book.proofs.store.Book.row.Goals as goal
 use Rattle.book.proofs.store.Book.row.Goals.{then-job-self+in_default, else-job-self}
 
-pub returns-in-Some : goal.returns-in-Some
-returns-in-Some c =
+pub returns-in-Ok : goal.returns-in-Ok
+returns-in-Ok c =
     let b = c.args.self.now in
-    ap waiting (c.in-Some.ensures.1 ∙ c.row.ensures c.row.result) ∙ sym (at_seen b.jobs (state b.groups).rows c.args.job c.row.result (omega (arith, b.few, b.whole)) c.if-job-self.true)
+    ap waiting (c.in-Ok.ensures.1 ∙ c.row.ensures c.row.result) ∙ sym (at_seen b.jobs (state b.groups).rows c.args.job c.row.result (omega (arith, b.few, b.whole)) c.if-job-self.true)
 
 pub returns : goal.returns
 returns c =

@@ -1,12 +1,8 @@
 -- What a request stores is sound.
-use Rattle.std.proofs.Common.{◌≡◌, false, length, sym, arith}
-use Rattle.std.proofs.lemmas.Bool.Decides.{nat_tests}
-use Rattle.rows.specs.Changes.{wrong_counts}
+use Rattle.std.proofs.Common.{sym}
 use Rattle.rows.proofs.Stored.{request_stores_sound}
 use Rattle.rows.proofs.plain.Row.request.Goals as goal
 
 pub invariant_of-result : goal.invariant_of-result
 invariant_of-result c =
-    let targets = c.args.targets.now in
-    let counts : wrong_counts c.args.need (length targets) ≡ false = grind (arith, nat_tests) in
-    record { lawful = request_stores_sound _ _ c.args.need targets c.padded.result counts (sym c.in_default.ensures) c.padded.ensures }
+    record { lawful = request_stores_sound _ _ c.args.need c.args.targets.now c.padded.result (sym c.if-not-counts_fit.ensures) (sym c.in_default.ensures) c.padded.ensures }

@@ -1,8 +1,0 @@
--- The places that are filled hold the first of the other targets.
-use Rattle.std.proofs.Common.{◌≡◌, length, take}
-use Rattle.std.specs.List.{remove}
-use Rattle.rows.specs.Law.{targets_max}
-use Rattle.rows.proofs.parts.without_place.Given as goal
-
-abbrev pub invariant-loop-i : goal.invariant-loop-i
-invariant-loop-i l = (length l.places ≡ targets_max) × (take l.i l.places ≡ take l.i (remove l.targets l.place))
