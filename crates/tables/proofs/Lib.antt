@@ -3,3 +3,4 @@ pub mod Targets
 pub mod Laws
 pub mod Waiters
 pub mod Grants
+pub mod Left

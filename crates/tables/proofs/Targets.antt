@@ -1,7 +1,11 @@
 -- Looking through targets, place by place.
-use Rattle.std.proofs.Common.{◌≡◌, ℕ, zero, suc, ◌+◌, ◌≤◌, true, false, eqb, List, [], ◌∷◌, length, drop, Some, None, sym, refl, ap, ◌∙◌, add-one, arith}
-use Rattle.std.proofs.lemmas.List.{at_drop_all}
-use Rattle.std.proofs.lemmas.Bool.{or_right, eq-eqb, ne_eqb}
+use Rattle.std.proofs.Common.{◌≡◌, ℕ, zero, suc, ◌+◌, ◌-◌, ◌<◌, ◌≤◌, true, ◌||◌, eqb, List, [], ◌∷◌, length, get_or, take, drop, slice_range, Some, None, Option, MatchOption, sym, refl, ap, ◌∙◌, add-one, arith}
+use Rattle.std.proofs.lemmas.List.{at_drop_all, drop_all, drop_more, take_all}
+use Rattle.std.proofs.lemmas.Option.{slice_get_past, slice_get-get_or}
+use Rattle.std.proofs.lemmas.Bool.{or_right, eq-eqb}
+use Rattle.std.specs.List.{filter_map, list_any, range_with_len}
+use Rattle.std.specs.declared.ops.Range.{Range}
+use Rattle.rows.proofs.Reading.{target_at_is_get}
 use Rattle.rows.specs.Waiting.{among, target_at}
 
 -- There is a target at a place just when the place is within.
@@ -11,9 +15,7 @@ no_target_is_past (x ∷ xs) zero e = let z : ◌≡◌ {A = ℕ} 0 1 = cc in ab
 no_target_is_past (x ∷ xs) (suc place) e = omega (arith, no_target_is_past xs place e)
 
 pub target_past_is_none : (ts : List ℕ) (place : ℕ) → length ts ≤ place → target_at ts place ≡ None
-target_past_is_none [] place l = refl
-target_past_is_none (x ∷ xs) zero l = absurd (omega arith)
-target_past_is_none (x ∷ xs) (suc place) l = target_past_is_none xs place (omega arith)
+target_past_is_none ts place l = target_at_is_get ts place ∙ slice_get_past ts place l
 
 -- A target is among the targets.
 pub target_is_among : (ts : List ℕ) (place t : ℕ) → target_at ts place ≡ Some t → among t ts ≡ true
@@ -27,12 +29,34 @@ target_heads_the_rest [] place t e = let z : ◌≡◌ {A = ℕ} 0 1 = cc in abs
 target_heads_the_rest (x ∷ xs) zero t e = let z : x ≡ t = cc in ap (λ (y : ℕ). y ∷ xs) z
 target_heads_the_rest (x ∷ xs) (suc place) t e = target_heads_the_rest xs place t e
 
--- The search for a job among targets, as far as a place: the job is among those left just when it is among all.
-pub among_where_a_target_is_the_job : (u : ℕ) (ts : List ℕ) (place t : ℕ) → Some t ≡ target_at ts place → t ≡ u → among u (drop place ts) ≡ among u ts → true ≡ among u ts
-among_where_a_target_is_the_job u ts place t e same h = sym (ap (among u) (target_heads_the_rest ts place t (sym e)) ∙ rw (eq-eqb t u same)) ∙ h
+-- The targets by their places, and whether some is a job.
+pub targets_by_place : (ts : List ℕ) (n place : ℕ) → place + n ≡ length ts → filter_map (target_at ts) (range_with_len place n) ≡ drop place ts
+targets_by_place ts zero place l = sym (drop_all place ts (omega arith))
+targets_by_place ts (suc n) place l =
+    let within : place < length ts = omega arith in
+    let here : target_at ts place ≡ Some (get_or ts place 0) = target_at_is_get ts place ∙ slice_get-get_or ts place 0 within in
+    rw here (ap (λ rest. get_or ts place 0 ∷ rest) (targets_by_place ts n (place + 1) (omega arith))) ∙ sym (drop_more ts place 0 within)
 
-pub among_goes_past_another_target : (u : ℕ) (ts : List ℕ) (place t : ℕ) → Some t ≡ target_at ts place → (t ≡ u → ⊥) → among u (drop place ts) ≡ among u ts → among u (drop (place + 1) ts) ≡ among u ts
-among_goes_past_another_target u ts place t e other h = sym (ap (among u) (target_heads_the_rest ts place t (sym e)) ∙ rw (ne_eqb t u other, add-one place)) ∙ h
+pub some_is_the_job : (u : ℕ) (ts : List ℕ) → list_any (λ t. eqb t u) ts ≡ among u ts
+some_is_the_job u [] = refl
+some_is_the_job u (t ∷ ts) = ap (λ b. eqb t u || b) (some_is_the_job u ts)
 
-pub not_among_past_the_last : (u : ℕ) (ts : List ℕ) (place : ℕ) → length ts ≤ place → among u (drop place ts) ≡ among u ts → false ≡ among u ts
-not_among_past_the_last u ts place l h = sym (at_drop_all (among u) ts place l) ∙ h
+-- What is left from one place up to another, at a target and past the last.
+pub targets_left_at_a_target : (ts : List ℕ) (from to t : ℕ) → from < to → target_at ts from ≡ Some t → slice_range ts from to ≡ t ∷ slice_range ts (from + 1) to
+targets_left_at_a_target ts from to t l e =
+    let more : to - from ≡ suc (to - (from + 1)) = omega arith in
+    rw (more, target_heads_the_rest ts from t e, add-one from)
+
+pub no_targets_left_past_the_last : (ts : List ℕ) (from to : ℕ) → length ts ≤ from → slice_range ts from to ≡ []
+no_targets_left_past_the_last ts from to l = at_drop_all (take (to - from)) ts from l ∙ take_all (to - from) [] (omega arith)
+
+-- A step of a walk through targets, at a place.
+pub target_walk_steps : (ts : List ℕ) (places later : Range ℕ) (place : ℕ) (found : Option ℕ)
+    → (later.end ≡ places.end) × ((0 < places.end - places.start) × (place ≡ places.start) × (later.start ≡ places.start + 1)) → found ≡ target_at ts place
+    → MatchOption found ((slice_range ts places.start places.end ≡ []) × (slice_range ts later.start later.end ≡ [])) (λ t. slice_range ts places.start places.end ≡ t ∷ slice_range ts later.start later.end)
+target_walk_steps ts places later place None h e =
+    let past = no_target_is_past ts place e in
+    (no_targets_left_past_the_last ts places.start places.end (omega (arith, h.1.1)), no_targets_left_past_the_last ts later.start later.end (omega (arith, h.1.1, h.1.2)))
+target_walk_steps ts places later place (Some t) h e =
+    let l : places.start < places.end = omega (arith, h.1.0) in
+    rw (h.0, h.1.2) (targets_left_at_a_target ts places.start places.end t l (rw h.1.1 at (sym e)))

@@ -1,20 +1,14 @@
 -- Who waits for a job: what stands in the list of waiters, and going through it.
-use Rattle.std.proofs.Common.{◌≡◌, ℕ, zero, suc, ◌+◌, ◌<◌, ◌≤◌, true, false, eqb, leb, List, [], ◌∷◌, length, drop, Some, None, Option, sym, refl, ◌∙◌, subst, ⊎_elim, add-one, arith}
-use Rattle.std.proofs.lemmas.List.{at_drop_more, at_drop_all}
-use Rattle.std.proofs.lemmas.Bool.{true≢false, cases_Bool, and_parts, and_from, or_cases, or_right, eqb-true, eq-eqb, ne_eqb, leb-true, leb-false, le-leb, lt-leb}
-use Rattle.rows.specs.Waiting.{Waiting, idle, at, among, target_at}
+use Rattle.std.proofs.Common.{◌≡◌, ℕ, zero, suc, ◌+◌, ◌<◌, ◌≤◌, true, false, eqb, leb, List, [], ◌∷◌, length, filter, Some, None, Option, MatchOption, sym, refl, ap, ◌∙◌, subst, inl, inr, ⊎_elim, add-one, arith}
+use Rattle.std.proofs.lemmas.Bool.{true≢false, cases_Bool, cases_lt, and_parts, and_from, or_cases, or_right, eqb-true, eq-eqb, ne_eqb, leb-true, leb-false, le-leb, lt-leb}
+use Rattle.rows.specs.Waiting.{Waiting, at, among, target_at}
 use Rattle.rows.specs.Law.{rising}
+use Rattle.rows.proofs.Fits.{rising_from_lower}
 use Rattle.tables.specs.Tables.{waiters_from, waiters, first_from}
 use Rattle.tables.proofs.Targets.{no_target_is_past, target_past_is_none, target_is_among}
 use Rattle.tables.proofs.Laws.{who_waits_is_a_job}
 
 -- Waiters rise.
-rising_from_lower : (lower low : ℕ) (xs : List ℕ) → lower ≤ low → rising low xs ≡ true → rising lower xs ≡ true
-rising_from_lower lower low [] l h = refl
-rising_from_lower lower low (x ∷ xs) l h =
-    let p = and_parts (leb low x) (rising (x + 1) xs) h in
-    and_from (leb lower x) (rising (x + 1) xs) (le-leb lower x (omega (arith, leb-true low x p.0))) p.1
-
 pub waiters_from_rise : (job u : ℕ) (rows : List Waiting) → rising job (waiters_from job u rows) ≡ true
 waiters_from_rise job u [] = refl
 waiters_from_rise job u (w ∷ ws) =
@@ -66,7 +60,7 @@ waiters_are_who_waits rows u v =
     let e : 0 + v ≡ v = omega arith in
     subst (λ (k : ℕ). among k (waiters rows u) ≡ among u (at rows v).targets) e (waiters_from_are_who_waits 0 u rows v)
 
--- The first waiter not below a number is the first one of the rows from there on.
+-- The first waiter not below a number that is not above the first row is the first one.
 first_from_lower_is_first : (from job u : ℕ) (rows : List Waiting) → from ≤ job → first_from from (waiters_from job u rows) ≡ target_at (waiters_from job u rows) 0
 first_from_lower_is_first from job u [] l = refl
 first_from_lower_is_first from job u (w ∷ ws) l =
@@ -74,38 +68,6 @@ first_from_lower_is_first from job u (w ∷ ws) l =
     (λ (e : among u w.targets ≡ true). rw (e, le-leb from job l))
     (λ (e : among u w.targets ≡ false). rw e (first_from_lower_is_first from (job + 1) u ws (omega arith)))
     (cases_Bool (among u w.targets))
-
-first_from_is_first_of_rest : (job k u : ℕ) (rows : List Waiting) → first_from (job + k) (waiters_from job u rows) ≡ target_at (waiters_from (job + k) u (drop k rows)) 0
-first_from_is_first_of_rest job zero u rows =
-    let e : job ≡ job + 0 = omega arith in
-    subst (λ (k : ℕ). first_from k (waiters_from job u rows) ≡ target_at (waiters_from k u rows) 0) e (first_from_lower_is_first job job u rows (omega arith))
-first_from_is_first_of_rest job (suc k) u [] = refl
-first_from_is_first_of_rest job (suc k) u (w ∷ ws) =
-    let e : job + 1 + k ≡ job + suc k = omega arith in
-    let ih = subst (λ (m : ℕ). first_from m (waiters_from (job + 1) u ws) ≡ target_at (waiters_from m u (drop k ws)) 0) e (first_from_is_first_of_rest (job + 1) k u ws) in
-    ⊎_elim
-    (λ (e : among u w.targets ≡ true). rw (e, lt-leb (job + suc k) job (omega arith)) ih)
-    (λ (e : among u w.targets ≡ false). rw e ih)
-    (cases_Bool (among u w.targets))
-
--- The search for a waiter, as far as a row: the first waiter of the rows left is the first one from `from` on.
-pub first_waiter_of_the_rows_left : (from u : ℕ) (rows : List Waiting) → target_at (waiters_from from u (drop from rows)) 0 ≡ first_from from (waiters rows u)
-first_waiter_of_the_rows_left from u rows =
-    let e : 0 + from ≡ from = omega arith in
-    subst (λ (k : ℕ). target_at (waiters_from k u (drop from rows)) 0 ≡ first_from k (waiters rows u)) e (sym (first_from_is_first_of_rest 0 from u rows))
-
-pub first_waiter_is_a_row_that_waits : (from job u : ℕ) (rows : List Waiting) → job < length rows → true ≡ among u (at rows job).targets
-    → target_at (waiters_from job u (drop job rows)) 0 ≡ first_from from (waiters rows u) → Some job ≡ first_from from (waiters rows u)
-first_waiter_is_a_row_that_waits from job u rows l a h = sym (at_drop_more (λ ws. target_at (waiters_from job u ws) 0) rows job idle l ∙ rw (sym a)) ∙ h
-
-pub first_waiter_is_past_another_row : (from job u : ℕ) (rows : List Waiting) → job < length rows → false ≡ among u (at rows job).targets
-    → target_at (waiters_from job u (drop job rows)) 0 ≡ first_from from (waiters rows u)
-    → target_at (waiters_from (job + 1) u (drop (job + 1) rows)) 0 ≡ first_from from (waiters rows u)
-first_waiter_is_past_another_row from job u rows l a h = sym (at_drop_more (λ ws. target_at (waiters_from job u ws) 0) rows job idle l ∙ rw (sym a)) ∙ h
-
-pub no_waiter_past_the_last_row : (from job u : ℕ) (rows : List Waiting) → length rows ≤ job
-    → target_at (waiters_from job u (drop job rows)) 0 ≡ first_from from (waiters rows u) → None ≡ first_from from (waiters rows u)
-no_waiter_past_the_last_row from job u rows l h = sym (at_drop_all (λ ws. target_at (waiters_from job u ws) 0) rows job l) ∙ h
 
 -- Going on from a number of a rising list.
 first_from_lower_of_rising : (from low : ℕ) (xs : List ℕ) → from ≤ low → rising low xs ≡ true → first_from from xs ≡ target_at xs 0
@@ -216,3 +178,81 @@ first_waiter_tells rows u from v h =
 
 pub no_waiter_from_there_on : (rows : List Waiting) (u from : ℕ) → first_from from (waiters rows u) ≡ None → (w : ℕ) → among u (at rows w).targets ≡ true → w < from
 no_waiter_from_there_on rows u from h w a = none_found_leaves_those_below from (waiters rows u) h w (waiters_are_who_waits rows u w ∙ a)
+
+-- The first job from a number on that waits is the first waiter from there on.
+pub first_who_waits_is_the_first_waiter : (rows : List Waiting) (u from jobs : ℕ) → jobs ≡ length rows → (found : Option ℕ)
+    → MatchOption found ((v : ℕ) → from ≤ v → v < jobs → among u (at rows v).targets ≡ false)
+    (λ v. (from ≤ v) × (v < jobs) × (among u (at rows v).targets ≡ true) × ((w : ℕ) → from ≤ w → w < v → among u (at rows w).targets ≡ false))
+    → found ≡ first_from from (waiters rows u)
+first_who_waits_is_the_first_waiter rows u from jobs n found h = go found h (first_from from (waiters rows u)) refl
+  where
+    go : (found : Option ℕ)
+        → MatchOption found ((v : ℕ) → from ≤ v → v < jobs → among u (at rows v).targets ≡ false)
+        (λ v. (from ≤ v) × (v < jobs) × (among u (at rows v).targets ≡ true) × ((w : ℕ) → from ≤ w → w < v → among u (at rows w).targets ≡ false))
+        → (first : Option ℕ) → first_from from (waiters rows u) ≡ first → found ≡ first
+    go None h None e = refl
+    go None h (Some v) e =
+        let f = first_waiter_tells rows u from v e in
+        let job = who_waits_is_a_job rows v u f.waits in
+        absurd (true≢false (sym f.waits ∙ h v f.not_below (omega arith)))
+    go (Some v) h None e = absurd (omega (arith, no_waiter_from_there_on rows u from e v h.2, h.0))
+    go (Some v) h (Some w) e =
+        let f = first_waiter_tells rows u from w e in
+        let below = f.least v h.2 h.0 in
+        elim (cases_lt w v) [
+          | inl l ↦ absurd (true≢false (sym f.waits ∙ h.3 w f.not_below l))
+          | inr l ↦ let same : v ≡ w = omega arith in ap (λ (k : ℕ). Some k) same
+        ]
+
+-- The numbers of a rising list that are not below another.
+pub rising_is_not_below : (from low : ℕ) (xs : List ℕ) → from ≤ low → rising low xs ≡ true → filter (λ v. leb from v) xs ≡ xs
+rising_is_not_below from low [] l h = refl
+rising_is_not_below from low (x ∷ xs) l h =
+    let p = and_parts (leb low x) (rising (x + 1) xs) h in
+    let above = leb-true low x p.0 in
+    rw (le-leb from x (omega arith)) (ap (λ ys. x ∷ ys) (rising_is_not_below from (x + 1) xs (omega arith) p.1))
+
+none_is_left_where_none_is_first : (from : ℕ) (xs : List ℕ) → first_from from xs ≡ None → filter (λ v. leb from v) xs ≡ []
+none_is_left_where_none_is_first from [] h = refl
+none_is_left_where_none_is_first from (x ∷ xs) h =
+    ⊎_elim
+    (λ (e : leb from x ≡ true). let z : ◌≡◌ {A = ℕ} 0 1 = cc (rw e at h) in absurd (omega arith))
+    (λ (e : leb from x ≡ false). rw e (none_is_left_where_none_is_first from xs (rw e at h)))
+    (cases_Bool (leb from x))
+
+first_heads_those_left : (low from : ℕ) (xs : List ℕ) (v : ℕ) → rising low xs ≡ true → first_from from xs ≡ Some v → filter (λ w. leb from w) xs ≡ v ∷ filter (λ w. leb (v + 1) w) xs
+first_heads_those_left low from [] v r h = let z : ◌≡◌ {A = ℕ} 0 1 = cc in absurd (omega arith)
+first_heads_those_left low from (x ∷ xs) v r h =
+    let p = and_parts (leb low x) (rising (x + 1) xs) r in
+    ⊎_elim
+    (λ (e : leb from x ≡ true).
+    let same : x ≡ v = cc (rw e at h) in
+    let above = leb-true from x e in
+    rw (e, lt-leb (v + 1) x (omega arith), rising_is_not_below from (x + 1) xs (omega arith) p.1, rising_is_not_below (v + 1) (x + 1) xs (omega arith) p.1) (ap (λ y. y ∷ xs) same))
+    (λ (e : leb from x ≡ false).
+    let found : first_from from xs ≡ Some v = rw e at h in
+    let f = first_found_is_among from xs v found in
+    rw (e, lt-leb (v + 1) x (omega (arith, leb-false from x e, f.0))) (first_heads_those_left (x + 1) from xs v p.1 found))
+    (cases_Bool (leb from x))
+
+-- The waiters that are left from a number on.
+pub all_waiters_are_left : (rows : List Waiting) (u : ℕ) → filter (λ v. leb 0 v) (waiters rows u) ≡ waiters rows u
+all_waiters_are_left rows u = rising_is_not_below 0 0 (waiters rows u) (omega arith) (waiters_rise rows u)
+
+pub no_waiters_left : (rows : List Waiting) (u from : ℕ) → first_from from (waiters rows u) ≡ None → filter (λ v. leb from v) (waiters rows u) ≡ []
+no_waiters_left rows u from h = none_is_left_where_none_is_first from (waiters rows u) h
+
+pub no_waiters_left_past_the_last_job : (rows : List Waiting) (u from : ℕ) → length rows ≤ from → filter (λ v. leb from v) (waiters rows u) ≡ []
+no_waiters_left_past_the_last_job rows u from l = go (first_from from (waiters rows u)) refl
+  where
+    go : (first : Option ℕ) → first_from from (waiters rows u) ≡ first → filter (λ v. leb from v) (waiters rows u) ≡ []
+    go None e = no_waiters_left rows u from e
+    go (Some v) e =
+        let f = first_waiter_tells rows u from v e in
+        absurd (omega (arith, f.not_below, who_waits_is_a_job rows v u f.waits))
+
+pub next_waiter_heads_those_left : (rows : List Waiting) (u from v : ℕ) → first_from from (waiters rows u) ≡ Some v → filter (λ w. leb from w) (waiters rows u) ≡ v ∷ filter (λ w. leb (v + 1) w) (waiters rows u)
+next_waiter_heads_those_left rows u from v h = first_heads_those_left 0 from (waiters rows u) v (waiters_rise rows u) h
+
+pub next_waiter_is_a_job : (rows : List Waiting) (u from v : ℕ) → first_from from (waiters rows u) ≡ Some v → v < length rows
+next_waiter_is_a_job rows u from v h = who_waits_is_a_job rows v u (first_waiter_tells rows u from v h).waits

@@ -1,3 +1,4 @@
 pub mod Tables
 pub mod Closed
 pub mod Grants
+pub mod Walks

@@ -3,6 +3,8 @@
 
 mod freeing;
 mod table;
+mod walks;
 
 pub use freeing::loosened_jobs_can_be_freed;
 pub use table::{JOBS_MAX, Table, TwoWayTable};
+pub use walks::{TargetsOf, WaitersOf};

@@ -2,6 +2,9 @@
 ghost use Rattle.std.specs.Prelude.{◌≡◌, ℕ, ◌≤◌, true, List, length};
 ghost use Rattle.rows.specs.Waiting.{Waiting, at, among, target_at};
 ghost use Rattle.tables.specs.Tables.{jobs_max, lawful, waiters, first_from};
+ghost use Rattle.tables.specs.Walks.{targets_left, waiters_left};
+
+use crate::walks::{TargetsOf, WaitersOf};
 
 // How many jobs a table has at most.
 pub const JOBS_MAX: usize = 256;
@@ -32,14 +35,23 @@ pub trait Table {
     fn waits_for(&self, waiter: usize, job: usize) -> bool
         ensures { result ≡ among job (at (rows self.now) waiter).targets }
     {
-        for place in 0..self.target_count(waiter) {
-            if let Some(target) = self.target(waiter, place) {
-                if target as usize == job {
-                    return true;
-                }
-            }
+        // by the places: only a sized table has `targets`
+        (0..self.target_count(waiter))
+            .filter_map(|place| self.target(waiter, place))
+            .any(|target| target as usize == job)
+    }
+
+    // The targets of a job, one after the other.
+    final fn targets(&self, job: usize) -> TargetsOf<'_, Self>
+    where
+        Self: Sized,
+        ensures { targets_left rows result ≡ (at (rows self.now) job).targets }
+    {
+        TargetsOf {
+            table: self,
+            job,
+            places: 0..self.target_count(job),
         }
-        false
     }
 }
 
@@ -49,28 +61,34 @@ pub trait TwoWayTable: Table {
     fn next_waiter(&self, job: usize, from: usize) -> Option<usize>
         ensures { result ≡ first_from from (waiters (Self.Table.rows self.now) job) }
     {
-        for waiter in from..self.jobs() {
-            if self.waits_for(waiter, job) {
-                return Some(waiter);
-            }
-        }
-        None
+        (from..self.jobs()).find(|waiter| self.waits_for(*waiter, job))
     }
 
     // The waiter of a job at a place, the waiters taken by rising number.
     fn waiter(&self, job: usize, place: usize) -> Option<usize>
         ensures { result ≡ target_at (waiters (Self.Table.rows self.now) job) place }
     {
+        // not by `waiters`, which only a sized table has
         if place >= self.jobs() {
             return None;
         }
-        let mut next = self.next_waiter(job, 0);
+        let mut waiter = self.next_waiter(job, 0)?;
         for _ in 0..place {
-            match next {
-                Some(waiter) => next = self.next_waiter(job, waiter + 1),
-                None => return None,
-            }
+            waiter = self.next_waiter(job, waiter + 1)?;
         }
-        next
+        Some(waiter)
+    }
+
+    // The waiters of a job, by rising number.
+    final fn waiters(&self, job: usize) -> WaitersOf<'_, Self>
+    where
+        Self: Sized,
+        ensures { waiters_left Self.Table.rows result ≡ waiters (Self.Table.rows self.now) job }
+    {
+        WaitersOf {
+            table: self,
+            job,
+            from: 0,
+        }
     }
 }

@@ -1,25 +1,19 @@
--- The search among the targets, turn by turn.
-use Rattle.std.proofs.Common.{arith}
-use Rattle.rows.specs.Waiting.{at}
-use Rattle.tables.proofs.Targets.{no_target_is_past, among_where_a_target_is_the_job, among_goes_past_another_target, not_among_past_the_last}
+-- The targets by their places are all targets, and the job is some of them just where it is among them.
+use Rattle.std.proofs.Common.{ℕ, Bool, eqb, length, rules, ap, ◌∙◌, refl, arith}
+use Rattle.std.proofs.lemmas.Iterator.{YieldsList-from_range}
+use Rattle.std.proofs.lemmas.Iterator.Consumers.{YieldsList-at, YieldsList-from_filter_map}
+use Rattle.std.proofs.lemmas.Iterator.Search.{any_from_yields_List}
+use Rattle.std.specs.List.{list_any}
+use Rattle.rows.specs.Waiting.{at, target_at}
+use Rattle.tables.proofs.Targets.{targets_by_place, some_is_the_job}
 use Rattle.tables.proofs.table.Table.waits_for.Goals as goal
-use Rattle.tables.proofs.table.Table.waits_for.Goals.{in-Some+else-target-job, in_default}
-
-pub returns-then-target-job : goal.returns-then-target-job
-returns-then-target-job g c =
-    let targets = (at (g.Self.Table.rows c.args.self.now) c.args.waiter).targets in
-    among_where_a_target_is_the_job c.args.job targets c.loop-place.place c.in-Some.target c.in-Some.ensures c.if-target-job.true c.loop-place.invariant
-
-pub loop-place-preserved : goal.loop-place-preserved
-loop-place-preserved g c =
-    let targets = (at (g.Self.Table.rows c.args.self.now) c.args.waiter).targets in
-    elim c.match-target.branch [
-      | in-Some+else-target-job w ↦
-          among_goes_past_another_target c.args.job targets c.loop-place.place w.in-Some.target w.in-Some.ensures w.if-target-job.false c.loop-place.invariant
-      | in_default w ↦ absurd (omega (arith, no_target_is_past targets c.loop-place.place w.in_default.ensures, c.target_count-place-end.ensures, c.loop-place-test.true))
-    ]
+use borrow.Author.Tests.{tests}
 
 pub returns : goal.returns
 returns g c =
     let targets = (at (g.Self.Table.rows c.args.self.now) c.args.waiter).targets in
-    not_among_past_the_last c.args.job targets c.loop-place.place (omega arith) c.loop-place.invariant
+    let is_job : ℕ → Bool = λ t. eqb t c.args.job in
+    any_from_yields_List is_job _ _ c.any.result c.any.ensures.ran
+    (YieldsList-from_filter_map _ (target_at targets) (YieldsList-at c.filter_map.ensures.source (YieldsList-from_range 0 _ (length targets) refl (omega (arith, c.target_count.ensures)))) c.filter_map.ensures.closure (λ x r q k. search (rules, tests)))
+    (λ x b q k. search (rules, tests))
+    ∙ (ap (list_any is_job) (targets_by_place targets (length targets) 0 (omega arith)) ∙ some_is_the_job c.args.job targets)
