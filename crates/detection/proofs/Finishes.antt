@@ -1,5 +1,5 @@
 -- What a detection leaves when no message is left to take.
-use Rattle.std.proofs.Common.{◌≡◌, ℕ, ◌*◌, ◌^◌, ◌<◌, ◌≤◌, false, List, [], ◌++◌, length, get_or, take, drop, None, sym, refl, ap, ◌∙◌, subst, arith}
+use Rattle.std.proofs.Common.{◌≡◌, ℕ, ◌*◌, ◌^◌, ◌<◌, ◌≤◌, List, [], ◌++◌, length, get_or, take, drop, None, sym, refl, ap, ◌∙◌, subst, arith}
 use Rattle.std.proofs.lemmas.List.{nil_from_length, take_all, drop_all, take-append-le, drop_at, get_or_append_left}
 use Rattle.std.proofs.lemmas.Bool.{ltb-false}
 use Rattle.std.proofs.lemmas.Bool.Decides.{nat_tests}
@@ -26,7 +26,7 @@ no_check_stops rows initiator records carrier job long empty wide = grind (arith
 -- The end of a run: no message came.
 module _ {rows : List Waiting} {initiator : ℕ} (tabled : Tabled rows) (job : initiator < length rows)
     {room before : ℕ} {records : List RunRecord} {now : Carried} (going : Going rows initiator room before records now)
-    {old message : Message} {left : Carried} (took : Took now left old message false) where
+    {left : Carried} (took : Took now left None) where
   none_waits : now.waiting ≡ []
   none_waits = nil_from_length now.waiting (omega (arith, ltb-false 0 (length now.waiting) (sym took.test)))
 
@@ -49,7 +49,7 @@ module _ {rows : List Waiting} {initiator : ℕ} (tabled : Tabled rows) (job : i
         count = count;
         few = omega (arith, (within_bounds tabled job going).deliveries);
         rest = drop_all (length rows) records (omega arith) ∙ sym (drop_all (length rows) was (omega arith));
-        waiting = ap (λ (c : Carried). c.waiting) took.waiting.0 ∙ none_waits;
+        waiting = ap (λ (c : Carried). c.waiting) took.waiting ∙ none_waits;
         capacity = took.capacity ∙ going.capacity ∙ same-room;
         handed = omega (arith, took.handed, going.handed);
         told = told;

@@ -1,5 +1,5 @@
 -- How far a detection has come, from the initiator's spread on, as facts of plain values.
-use Rattle.std.proofs.Common.{◌≡◌, ℕ, ◌+◌, ◌-◌, ◌*◌, ◌%◌, ◌^◌, ◌<◌, ◌≤◌, true, List, [], ◌∷◌, ◌++◌, length, get_or, set, replicate, refl, ap, ◌∙◌, subst, arith}
+use Rattle.std.proofs.Common.{◌≡◌, ℕ, ◌+◌, ◌-◌, ◌*◌, ◌%◌, ◌^◌, ◌<◌, ◌≤◌, List, [], ◌∷◌, ◌++◌, length, get_or, set, replicate, refl, ap, ◌∙◌, subst, Some, arith}
 use Rattle.std.specs.List.Sorted.{IsPermutation}
 use Rattle.std.proofs.lemmas.List.{get_or-replicate, length-append, length_push, nil_from_length}
 use Rattle.std.proofs.lemmas.List.Sorted.{IsPermutation-refl, IsPermutation-sym}
@@ -88,7 +88,7 @@ module _ {rows : List Waiting} {initiator : ℕ} (tabled : Tabled rows) (job : i
 
   -- A turn: a message is taken.
   module _ {room before : ℕ} {records : List RunRecord} {now : Carried} (going : Going rows initiator room before records now)
-      {old message : Message} {left : Carried} (took : Took now left old message true) where
+      {message : Message} {left : Carried} (took : Took now left (Some message)) where
     pub taken_message_is_awaited : Awaited rows records message
     taken_message_is_awaited =
         (all_shuffled (Awaited rows records) now.waiting (message ∷ left.waiting)

@@ -1,6 +1,6 @@
 -- The lemmas, by topic.
 mod Few
-mod Places
+mod Walked
 mod Acts
 mod Going
 mod Verdicts

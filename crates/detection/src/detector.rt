@@ -4,12 +4,12 @@ ghost use Rattle.std.specs.Result.{result_err};
 ghost use Rattle.tables.specs.Tables.{jobs_max, waits as waits_of};
 ghost use Rattle.rows.specs.Law.{targets_max};
 ghost use Rattle.detection.specs.Detected.{stop, Finished, verdict_of};
-ghost use Rattle.detection.specs.Asked.{Tabled};
 
 use crate::fault::DetectionFault;
+use crate::lawful::LawfulTable;
 use crate::reactions::{deliver, spread};
 use crate::verdict::{Detection, Verdict};
-use carriers::{Carrier, Kind, Message, Wait};
+use carriers::Carrier;
 use exchange::RunRecord;
 use tables::{Table, TwoWayTable};
 
@@ -40,7 +40,8 @@ pub fn detect<T: TwoWayTable, C: Carrier>(
     if carrier.capacity() < CAPACITY_PER_WAIT * waits(table) {
         return Err(DetectionFault::CarrierTooSmall);
     }
-    Ok(run(table, initiator as u8, &mut records[0..jobs], carrier))
+    let table = LawfulTable { table };
+    Ok(run(&table, initiator as u8, &mut records[..jobs], carrier))
 }
 
 // How many waits a table has.
@@ -57,21 +58,20 @@ fn waits<T: Table>(table: &T) -> usize
 
 // The run: the initiator spreads, and messages are delivered until none waits.
 fn run<T: TwoWayTable, C: Carrier>(
-    table: &T,
+    table: &LawfulTable<T>,
     initiator: u8,
     records: &mut [RunRecord],
     carrier: &mut C,
 ) -> Detection
-    requires table { Tabled (T.Table.rows table.now) }
-    requires job { initiator < length (T.Table.rows table.now) }
-    requires records { length records.old ≡ length (T.Table.rows table.now) }
+    requires job { initiator < length (T.Table.rows table.now.table.now) }
+    requires records { length records.old ≡ length (T.Table.rows table.now.table.now) }
     requires waiting { length (C.Carrier.carried carrier.old).waiting ≡ 0 }
-    requires room { 2 * waits_of (T.Table.rows table.now) ≤ (C.Carrier.carried carrier.old).capacity }
-    ensures { Finished (T.Table.rows table.now) initiator records.old records.new (C.Carrier.carried carrier.old) (C.Carrier.carried carrier.new) result }
+    requires room { 2 * waits_of (T.Table.rows table.now.table.now) ≤ (C.Carrier.carried carrier.old).capacity }
+    ensures { Finished (T.Table.rows table.now.table.now) initiator records.old records.new (C.Carrier.carried carrier.old) (C.Carrier.carried carrier.new) result }
 {
     let before = carrier.handed_out();
     records.fill(RunRecord::blank());
-    let need = table.need(initiator as usize);
+    let need = table.table.need(initiator as usize);
     spread(
         table,
         initiator,
@@ -79,14 +79,7 @@ fn run<T: TwoWayTable, C: Carrier>(
         &mut records[initiator as usize],
         carrier,
     );
-    let mut message = Message {
-        kind: Kind::Notify,
-        wait: Wait {
-            waiter: 0,
-            target: 0,
-        },
-    };
-    while carrier.take(&mut message) {
+    while let Some(message) = carrier.take() {
         deliver(table, message, records, carrier);
     }
     Detection {

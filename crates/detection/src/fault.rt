@@ -2,7 +2,7 @@
 mod tells;
 
 // The refusals of a detection; docs/RULES.md has their numbers and the order of the checks.
-#[derive(Clone, Copy, PartialEq, Eq)]
+#[derive(Clone, Copy, PartialEq, Eq, Debug)]
 pub enum DetectionFault {
     NoSuchJob,
     TooFewRecords,

@@ -3,6 +3,7 @@
 
 mod detector;
 mod fault;
+mod lawful;
 mod puts;
 mod reactions;
 mod verdict;

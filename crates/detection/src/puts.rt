@@ -4,10 +4,11 @@ ghost use Rattle.carriers.specs.Meaning.{Sent};
 ghost use Rattle.rows.specs.Waiting.{at};
 ghost use Rattle.tables.specs.Tables.{waiters};
 ghost use Rattle.exchange.specs.Messages.{message, notifies, grants, put_on};
-ghost use Rattle.detection.specs.Asked.{Tabled, RoomFor};
+ghost use Rattle.detection.specs.Asked.{RoomFor};
 
+use crate::lawful::LawfulTable;
 use carriers::{Carrier, Kind, Message, Wait};
-use tables::TwoWayTable;
+use tables::{Table, TwoWayTable};
 
 // Puts a message for which there is room.
 pub fn send<C: Carrier>(carrier: &mut C, kind: Kind, wait: Wait)
@@ -28,41 +29,45 @@ pub fn send_on<C: Carrier>(carrier: &mut C, kind: Kind, wait: Option<Wait>)
 }
 
 // Puts NOTIFY on each wait of a job, and tells how many there are.
-pub fn send_notifies<T: TwoWayTable, C: Carrier>(table: &T, job: u8, carrier: &mut C) -> u16
-    requires table { Tabled (T.Table.rows table.now) }
-    requires room { RoomFor (C.Carrier.carried carrier.old) (notifies (T.Table.rows table.now) job) }
-    ensures count { result ≡ length (at (T.Table.rows table.now) job).targets }
-    ensures sent { Sent (C.Carrier.carried carrier.old) (C.Carrier.carried carrier.new) (notifies (T.Table.rows table.now) job) }
+pub fn send_notifies<T: TwoWayTable, C: Carrier>(
+    table: &LawfulTable<T>,
+    job: u8,
+    carrier: &mut C,
+) -> u16
+    requires room { RoomFor (C.Carrier.carried carrier.old) (notifies (T.Table.rows table.now.table.now) job) }
+    ensures count { result ≡ length (at (T.Table.rows table.now.table.now) job).targets }
+    ensures sent { Sent (C.Carrier.carried carrier.old) (C.Carrier.carried carrier.new) (notifies (T.Table.rows table.now.table.now) job) }
 {
-    let mut place = 0;
-    while let Some(target) = table.target(job as usize, place) {
+    let mut count = 0;
+    for target in table.table.targets(job as usize) {
         let wait = Wait {
             waiter: job,
             target,
         };
         send(carrier, Kind::Notify, wait);
-        place += 1;
+        count += 1;
     }
-    place as u16
+    count
 }
 
 // Puts GRANT on each wait for a job, and tells how many there are.
-pub fn send_grants<T: TwoWayTable, C: Carrier>(table: &T, job: u8, carrier: &mut C) -> u16
-    requires table { Tabled (T.Table.rows table.now) }
-    requires room { RoomFor (C.Carrier.carried carrier.old) (grants (T.Table.rows table.now) job) }
-    ensures count { result ≡ length (waiters (T.Table.rows table.now) job) }
-    ensures sent { Sent (C.Carrier.carried carrier.old) (C.Carrier.carried carrier.new) (grants (T.Table.rows table.now) job) }
+pub fn send_grants<T: TwoWayTable, C: Carrier>(
+    table: &LawfulTable<T>,
+    job: u8,
+    carrier: &mut C,
+) -> u16
+    requires room { RoomFor (C.Carrier.carried carrier.old) (grants (T.Table.rows table.now.table.now) job) }
+    ensures count { result ≡ length (waiters (T.Table.rows table.now.table.now) job) }
+    ensures sent { Sent (C.Carrier.carried carrier.old) (C.Carrier.carried carrier.new) (grants (T.Table.rows table.now.table.now) job) }
 {
     let mut count = 0;
-    let mut from = 0;
-    while let Some(waiter) = table.next_waiter(job as usize, from) {
+    for waiter in table.table.waiters(job as usize) {
         let wait = Wait {
             waiter: waiter as u8,
             target: job,
         };
         send(carrier, Kind::Grant, wait);
         count += 1;
-        from = waiter + 1;
     }
     count
 }

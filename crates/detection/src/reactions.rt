@@ -6,19 +6,24 @@ ghost use Rattle.exchange.specs.Messages.{receiver as goes_to};
 ghost use Rattle.exchange.specs.Rules.{let_go, close_notice, spread as spreading, react as reacting};
 ghost use Rattle.exchange.specs.Runs.{reaction};
 ghost use Rattle.exchange.specs.Bounds.{Due, Awaited};
-ghost use Rattle.detection.specs.Asked.{Tabled, RoomFor};
+ghost use Rattle.detection.specs.Asked.{RoomFor};
 
+use crate::lawful::LawfulTable;
 use crate::puts::{send, send_grants, send_notifies, send_on};
 use carriers::{Carrier, Kind, Message};
 use exchange::RunRecord;
 use tables::{Table, TwoWayTable};
 
 // A job lets go: it becomes free, and puts GRANT on each wait for it.
-fn release<T: TwoWayTable, C: Carrier>(table: &T, job: u8, own: &mut RunRecord, carrier: &mut C)
-    requires table { Tabled (T.Table.rows table.now) }
-    requires room { RoomFor (C.Carrier.carried carrier.old) (let_go (T.Table.rows table.now) job own.old).puts }
-    ensures own { own.new ≡ (let_go (T.Table.rows table.now) job own.old).becomes }
-    ensures sent { Sent (C.Carrier.carried carrier.old) (C.Carrier.carried carrier.new) (let_go (T.Table.rows table.now) job own.old).puts }
+fn release<T: TwoWayTable, C: Carrier>(
+    table: &LawfulTable<T>,
+    job: u8,
+    own: &mut RunRecord,
+    carrier: &mut C,
+)
+    requires room { RoomFor (C.Carrier.carried carrier.old) (let_go (T.Table.rows table.now.table.now) job own.old).puts }
+    ensures own { own.new ≡ (let_go (T.Table.rows table.now.table.now) job own.old).becomes }
+    ensures sent { Sent (C.Carrier.carried carrier.old) (C.Carrier.carried carrier.new) (let_go (T.Table.rows table.now.table.now) job own.old).puts }
 {
     own.free = true;
     own.acks_due = send_grants(table, job, carrier);
@@ -26,17 +31,16 @@ fn release<T: TwoWayTable, C: Carrier>(table: &T, job: u8, own: &mut RunRecord, 
 
 // A job spreads: it becomes notified, and puts NOTIFY on each of its waits; one that needs none by the table then lets go.
 pub fn spread<T: TwoWayTable, C: Carrier>(
-    table: &T,
+    table: &LawfulTable<T>,
     job: u8,
     need: u8,
     own: &mut RunRecord,
     carrier: &mut C,
 )
-    requires table { Tabled (T.Table.rows table.now) }
-    requires need { need ≡ (at (T.Table.rows table.now) job).need }
-    requires room { RoomFor (C.Carrier.carried carrier.old) (spreading (T.Table.rows table.now) job own.old).puts }
-    ensures own { own.new ≡ (spreading (T.Table.rows table.now) job own.old).becomes }
-    ensures sent { Sent (C.Carrier.carried carrier.old) (C.Carrier.carried carrier.new) (spreading (T.Table.rows table.now) job own.old).puts }
+    requires need { need ≡ (at (T.Table.rows table.now.table.now) job).need }
+    requires room { RoomFor (C.Carrier.carried carrier.old) (spreading (T.Table.rows table.now.table.now) job own.old).puts }
+    ensures own { own.new ≡ (spreading (T.Table.rows table.now.table.now) job own.old).becomes }
+    ensures sent { Sent (C.Carrier.carried carrier.old) (C.Carrier.carried carrier.new) (spreading (T.Table.rows table.now.table.now) job own.old).puts }
 {
     own.notified = true;
     own.dones_due = send_notifies(table, job, carrier);
@@ -65,20 +69,19 @@ fn receiver(message: Message) -> u8
 
 // What the receiver of a message does, by its own record and the kind.
 fn react<T: TwoWayTable, C: Carrier>(
-    table: &T,
+    table: &LawfulTable<T>,
     message: Message,
     own: &mut RunRecord,
     carrier: &mut C,
 )
-    requires table { Tabled (T.Table.rows table.now) }
-    requires due { Due (T.Table.rows table.now) message.kind message.wait own.old }
-    requires room { RoomFor (C.Carrier.carried carrier.old) (reacting (T.Table.rows table.now) message.kind message.wait own.old).puts }
-    ensures own { own.new ≡ (reacting (T.Table.rows table.now) message.kind message.wait own.old).becomes }
-    ensures sent { Sent (C.Carrier.carried carrier.old) (C.Carrier.carried carrier.new) (reacting (T.Table.rows table.now) message.kind message.wait own.old).puts }
+    requires due { Due (T.Table.rows table.now.table.now) message.kind message.wait own.old }
+    requires room { RoomFor (C.Carrier.carried carrier.old) (reacting (T.Table.rows table.now.table.now) message.kind message.wait own.old).puts }
+    ensures own { own.new ≡ (reacting (T.Table.rows table.now.table.now) message.kind message.wait own.old).becomes }
+    ensures sent { Sent (C.Carrier.carried carrier.old) (C.Carrier.carried carrier.new) (reacting (T.Table.rows table.now.table.now) message.kind message.wait own.old).puts }
 {
     let wait = message.wait;
     let job = receiver(message);
-    let need = table.need(job as usize);
+    let need = table.table.need(job as usize);
     match (message.kind, own.notified, own.free) {
         (Kind::Notify, true, _) => send(carrier, Kind::Done, wait),
         (Kind::Notify, false, _) => {
@@ -119,17 +122,16 @@ fn react<T: TwoWayTable, C: Carrier>(
 
 // Delivers a message: its receiver reacts, by its record in the list.
 pub fn deliver<T: TwoWayTable, C: Carrier>(
-    table: &T,
+    table: &LawfulTable<T>,
     message: Message,
     records: &mut [RunRecord],
     carrier: &mut C,
 )
-    requires table { Tabled (T.Table.rows table.now) }
-    requires records { length records.old ≡ length (T.Table.rows table.now) }
-    requires awaited { Awaited (T.Table.rows table.now) records.old message }
-    requires room { RoomFor (C.Carrier.carried carrier.old) (reaction (T.Table.rows table.now) records.old message).puts }
-    ensures records { records.new ≡ slice_set records.old (goes_to message) (reaction (T.Table.rows table.now) records.old message).becomes }
-    ensures sent { Sent (C.Carrier.carried carrier.old) (C.Carrier.carried carrier.new) (reaction (T.Table.rows table.now) records.old message).puts }
+    requires records { length records.old ≡ length (T.Table.rows table.now.table.now) }
+    requires awaited { Awaited (T.Table.rows table.now.table.now) records.old message }
+    requires room { RoomFor (C.Carrier.carried carrier.old) (reaction (T.Table.rows table.now.table.now) records.old message).puts }
+    ensures records { records.new ≡ slice_set records.old (goes_to message) (reaction (T.Table.rows table.now.table.now) records.old message).becomes }
+    ensures sent { Sent (C.Carrier.carried carrier.old) (C.Carrier.carried carrier.new) (reaction (T.Table.rows table.now.table.now) records.old message).puts }
 {
     let job = receiver(message) as usize;
     react(table, message, &mut records[job], carrier);

@@ -6,8 +6,8 @@ use Rattle.detection.proofs.detector.run.Given as goal
 
 abbrev pub invariant-loop-message : goal.invariant-loop-message
 invariant-loop-message g l =
-    Going (g.T.Table.rows l.table) l.initiator (g.C.Carrier.carried l.initial.carrier).capacity l.before
+    Going (g.T.Table.rows l.table.table.now) l.initiator (g.C.Carrier.carried l.initial.carrier).capacity l.before
     l.records (g.C.Carrier.carried l.carrier)
 
 abbrev pub decreases-loop-message : goal.decreases-loop-message
-decreases-loop-message g l = 4 * waits (g.T.Table.rows l.table) - growth l.before (g.C.Carrier.carried l.carrier).handed
+decreases-loop-message g l = 4 * waits (g.T.Table.rows l.table.table.now) - growth l.before (g.C.Carrier.carried l.carrier).handed

@@ -9,17 +9,17 @@ use Rattle.detection.proofs.reactions.react.Goals.{Then-own-need, Then-due-eq0}
 
 pub overflow_add-own : goal.overflow_add-own
 overflow_add-own g c =
-    let few = grant_finds_few_granted c.requires.table c.args.message.wait c.args.own.now c.in-Grant-default-false.is-0 c.requires.due in
+    let few = grant_finds_few_granted c.args.table.now.tabled c.args.message.wait c.args.own.now c.in-Grant-default-false.is-0 c.requires.due in
     omega arith
 
 pub overflow_add-own-in-Grant-default-default : goal.overflow_add-own-in-Grant-default-default
 overflow_add-own-in-Grant-default-default g c =
-    let few = grant_finds_few_granted c.requires.table c.args.message.wait c.args.own.now c.in-Grant-default-default.is-0 c.requires.due in
+    let few = grant_finds_few_granted c.args.table.now.tabled c.args.message.wait c.args.own.now c.in-Grant-default-default.is-0 c.requires.due in
     omega arith
 
 -- The receiver is freed.
 frees : (g : given.Over) (c : Then-own-need g)
-    → Frees (g.T.Table.rows c.args.table.now) c.args.message.kind c.args.message.wait c.args.own.now c.receiver-job.result
+    → Frees (g.T.Table.rows c.args.table.now.table.now) c.args.message.kind c.args.message.wait c.args.own.now c.receiver-job.result
 frees g c = record {
   grant = c.in-Grant-default-false.is-0;
   receiver = c.receiver-job.ensures;
@@ -27,12 +27,11 @@ frees g c = record {
   enough = c.if-own-need.true ∙ c.need-need.ensures;
 }
 
-no_waiters : (g : given.Over) (c : Then-due-eq0 g) → length (waiters (g.T.Table.rows c.args.table.now) c.receiver-job.result) ≡ 0
+no_waiters : (g : given.Over) (c : Then-due-eq0 g) → length (waiters (g.T.Table.rows c.args.table.now.table.now) c.receiver-job.result) ≡ 0
 no_waiters g c = sym (ap (λ (r : RunRecord). r.acks_due) c.release.ensures.own) ∙ c.if-due-eq0.true
 
 pub release-requires : goal.release-requires
 release-requires g c = record {
-  table = c.requires.table;
   room = freed_job_has_room_for_grants (frees g (goal.at.release-requires g c).Then-own-need) (g.C.Carrier.carried c.args.carrier.now) c.requires.room;
 }
 

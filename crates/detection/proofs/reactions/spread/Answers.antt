@@ -10,26 +10,26 @@ use Rattle.detection.proofs.reactions.spread.Given as given
 use Rattle.detection.proofs.reactions.spread.Goals as goal
 use Rattle.detection.proofs.reactions.spread.Goals.{Then-need-eq0}
 
-active : (g : given.Over) (c : Then-need-eq0 g) → (at (g.T.Table.rows c.args.table.now) c.args.job).need ≡ 0
+active : (g : given.Over) (c : Then-need-eq0 g) → (at (g.T.Table.rows c.args.table.now.table.now) c.args.job).need ≡ 0
 active g c = sym c.requires.need ∙ c.if-need-eq0.true
 
 pub send_notifies-own-requires : goal.send_notifies-own-requires
 send_notifies-own-requires g c =
-    let rows = g.T.Table.rows c.args.table.now in
-    record { table = c.requires.table; room = omega (arith, spread_puts_each_notify rows c.args.job c.args.own.now, c.requires.room) }
+    let rows = g.T.Table.rows c.args.table.now.table.now in
+    record { room = omega (arith, spread_puts_each_notify rows c.args.job c.args.own.now, c.requires.room) }
 
 pub release-requires : goal.release-requires
 release-requires g c =
-    let rows = g.T.Table.rows c.args.table.now in
+    let rows = g.T.Table.rows c.args.table.now.table.now in
     let before = g.C.Carrier.carried c.args.carrier.now in
     let between = g.C.Carrier.carried c.send_notifies-own.new.carrier in
     let sent = c.send_notifies-own.ensures.sent in
     let puts = active_job_puts_both rows c.args.job c.args.own.now (active g (goal.at.release-requires g c).Then-need-eq0) in
-    record { table = c.requires.table; room = omega (arith, length-sent before between (notifies rows c.args.job) sent, sent.capacity, puts, c.requires.room) }
+    record { room = omega (arith, length-sent before between (notifies rows c.args.job) sent, sent.capacity, puts, c.requires.room) }
 
 pub returns-then-need-eq0 : goal.returns-then-need-eq0
 returns-then-need-eq0 g c =
-    let rows = g.T.Table.rows c.args.table.now in
+    let rows = g.T.Table.rows c.args.table.now.table.now in
     let before = g.C.Carrier.carried c.args.carrier.now in
     let between = g.C.Carrier.carried c.send_notifies-own.new.carrier in
     let after = g.C.Carrier.carried c.release.new.carrier in

@@ -1,0 +1,11 @@
+// A table whose promises have been heard.
+ghost use Rattle.detection.specs.Asked.{Tabled};
+
+use tables::Table;
+
+// A table that was asked for its jobs: it has at most 256, and their rows obey the row law.
+#[derive(Drop)]
+pub struct LawfulTable<'a, T: Table> {
+    pub table: &'a T,
+    ghost tabled: { Tabled (T.Table.rows table.now) },
+}
