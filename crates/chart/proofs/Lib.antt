@@ -1,4 +1,4 @@
 -- The lemmas, by topic.
 mod Rows
-mod Rights
 mod Scans
+mod Taken

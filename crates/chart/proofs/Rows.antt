@@ -1,31 +1,36 @@
--- The rows in bytes, job by job.
-use Rattle.std.proofs.Common.{◌≡◌, ℕ, zero, suc, ◌+◌, ◌*◌, ◌<◌, ◌≤◌, List, [], ◌∷◌, length, get_or, take, drop, Some, sym, refl, ap, ◌∙◌, arith}
-use Rattle.std.proofs.lemmas.List.{drop-drop, get_or_past}
-use Rattle.rows.specs.Waiting.{idle, at, target_at}
-use Rattle.chart.specs.Layout.{row_bytes, row_of, rows_in}
+-- Right rows: what they tell.
+use Rattle.std.proofs.Common.{◌≡◌, ℕ, zero, suc, ◌+◌, ◌<◌, ◌≤◌, true, ◌&&◌, leb, List, [], ◌∷◌, length, get_or, drop, map, sym, refl, subst, arith}
+use Rattle.std.proofs.lemmas.List.{length-map}
+use Rattle.std.proofs.lemmas.Bool.{and_parts, and_from, leb-true}
+use Rattle.rows.specs.Law.{targets_max, row_fits}
+use Rattle.tables.specs.Tables.{rows_fit, lawful}
+use Rattle.chart.specs.Layout.{count_byte, target_bytes, row_of}
+use Rattle.chart.specs.Check.{all_zero, row_right, rows_right}
 
--- There are as many rows as jobs.
-pub rows_are_as_many_as_jobs : (n : ℕ) (bytes : List ℕ) → length (rows_in n bytes) ≡ n
-rows_are_as_many_as_jobs zero bytes = refl
-rows_are_as_many_as_jobs (suc n) bytes = ap suc (rows_are_as_many_as_jobs n (drop row_bytes bytes))
+-- One row.
+right_row_has_few_targets : (n job : ℕ) (row : List ℕ) → row_right n job row ≡ true → count_byte row ≤ targets_max
+right_row_has_few_targets n job row h =
+    leb-true (count_byte row) targets_max (and_parts (leb (count_byte row) targets_max) (row_fits n job (row_of row) && all_zero (drop (count_byte row) (target_bytes row))) h).0
 
--- The row of each job is what its bytes say.
-row_in_is_of_job_bytes : (n : ℕ) (bytes : List ℕ) (job : ℕ) → job < n → at (rows_in n bytes) job ≡ row_of (take row_bytes (drop (row_bytes * job) bytes))
-row_in_is_of_job_bytes zero bytes job l = absurd (omega arith)
-row_in_is_of_job_bytes (suc n) bytes zero l = refl
-row_in_is_of_job_bytes (suc n) bytes (suc job) l =
-    let e : row_bytes + row_bytes * job ≡ row_bytes * suc job = omega arith in
-    row_in_is_of_job_bytes n (drop row_bytes bytes) job (omega arith)
-    ∙ ap (λ (xs : List ℕ). row_of (take row_bytes xs)) (drop-drop (row_bytes * job) row_bytes bytes ∙ ap (λ (k : ℕ). drop k bytes) e)
+right_row_fits : (n job : ℕ) (row : List ℕ) → row_right n job row ≡ true → row_fits n job (row_of row) ≡ true
+right_row_fits n job row h =
+    let zeros = all_zero (drop (count_byte row) (target_bytes row)) in
+    let p = and_parts (leb (count_byte row) targets_max) (row_fits n job (row_of row) && zeros) h in
+    (and_parts (row_fits n job (row_of row)) zeros p.1).0
 
-pub row_is_of_its_bytes : (n : ℕ) (bytes row : List ℕ) (job : ℕ) → job < n → row ≡ take row_bytes (drop (row_bytes * job) bytes) → row_of row ≡ at (rows_in n bytes) job
-row_is_of_its_bytes n bytes row job l e = ap row_of e ∙ sym (row_in_is_of_job_bytes n bytes job l)
+-- Right rows obey the row law.
+right_rows_fit : (n job : ℕ) (rows : List (List ℕ)) → rows_right n job rows ≡ true → rows_fit n job (map row_of rows) ≡ true
+right_rows_fit n job [] h = refl
+right_rows_fit n job (row ∷ rows) h =
+    let p = and_parts (row_right n job row) (rows_right n (job + 1) rows) h in
+    and_from (row_fits n job (row_of row)) (rows_fit n (job + 1) (map row_of rows)) (right_row_fits n job row p.0) (right_rows_fit n (job + 1) rows p.1)
 
-pub row_past_the_last_is_idle : (n : ℕ) (bytes : List ℕ) (job : ℕ) → n ≤ job → at (rows_in n bytes) job ≡ idle
-row_past_the_last_is_idle n bytes job l = get_or_past (rows_in n bytes) job idle (omega (arith, rows_are_as_many_as_jobs n bytes))
+pub right_rows_are_lawful : (rows : List (List ℕ)) → rows_right (length rows) 0 rows ≡ true → lawful (map row_of rows) ≡ true
+right_rows_are_lawful rows h = subst (λ (k : ℕ). rows_fit k 0 (map row_of rows) ≡ true) (sym (length-map rows row_of)) (right_rows_fit (length rows) 0 rows h)
 
--- The target at a place within the targets.
-pub target_within_is_some : (ts : List ℕ) (place : ℕ) → place < length ts → target_at ts place ≡ Some (get_or ts place 0)
-target_within_is_some [] place l = absurd (omega arith)
-target_within_is_some (t ∷ ts) zero l = refl
-target_within_is_some (t ∷ ts) (suc place) l = target_within_is_some ts place (omega arith)
+-- Each right row has few targets.
+pub right_rows_have_few_targets : (n job : ℕ) (rows : List (List ℕ)) → rows_right n job rows ≡ true → (k : ℕ) (d : List ℕ) → k < length rows → count_byte (get_or rows k d) ≤ targets_max
+right_rows_have_few_targets n job [] h k d l = absurd (omega arith)
+right_rows_have_few_targets n job (row ∷ rows) h zero d l = right_row_has_few_targets n job row (and_parts (row_right n job row) (rows_right n (job + 1) rows) h).0
+right_rows_have_few_targets n job (row ∷ rows) h (suc k) d l =
+    right_rows_have_few_targets n (job + 1) rows (and_parts (row_right n job row) (rows_right n (job + 1) rows) h).1 k d (omega arith)

@@ -27,10 +27,10 @@ first_wrong_row n job zero bytes = None
 first_wrong_row n job (suc m) bytes =
     cond (row_right n job (take row_bytes bytes)) (first_wrong_row n (job + 1) m (drop row_bytes bytes)) (Some job)
 
--- The bytes of m jobs, from `job` on, are right.
-abbrev pub rows_right : (n job m : ℕ) → List ℕ → Bool
-rows_right n job zero bytes = true
-rows_right n job (suc m) bytes = row_right n job (take row_bytes bytes) && rows_right n (job + 1) m (drop row_bytes bytes)
+-- The rows of the jobs from `job` on, of n jobs, are right.
+abbrev pub rows_right : (n job : ℕ) → List (List ℕ) → Bool
+rows_right n job [] = true
+rows_right n job (row ∷ rows) = row_right n job row && rows_right n (job + 1) rows
 
 abbrev pub told : (n : ℕ) → Option ℕ → Result ℕ ChartFault
 told n None = Ok n

@@ -1,8 +1,15 @@
 -- The rows that a chart tells.
-use Rattle.std.specs.Prelude.{List}
+use Rattle.std.specs.Prelude.{ℕ, List, map, length, Ok, Err, Result}
+use Rattle.std.specs.Borrow.{Bor}
 use Rattle.rows.specs.Waiting.{Waiting}
 use Rattle.chart.specs.declared.chart.Chart.{Chart}
-use Rattle.chart.specs.Layout.{rows_in}
+use Rattle.chart.specs.declared.fault.ChartFault.{ChartFault}
+use Rattle.chart.specs.Layout.{row_of}
 
 abbrev pub rows_of : Chart → List Waiting
-rows_of c = rows_in c.jobs c.bytes.now
+rows_of c = map row_of c.rows.now
+
+-- How many rows there are, or why there are none.
+abbrev pub counted : Result (Bor (List (List ℕ))) ChartFault → Result ℕ ChartFault
+counted (Ok rows) = Ok (length rows.now)
+counted (Err e) = Err e

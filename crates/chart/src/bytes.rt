@@ -1,8 +1,9 @@
 // The bytes of rows, read where they lie.
-ghost use Rattle.std.specs.Prelude.{◌≡◌, ◌+◌, ◌*◌, ◌≤◌, length, take, drop};
+ghost use Rattle.std.specs.Prelude.{◌≡◌, ◌≤◌, not, length, position, drop};
+ghost use Rattle.std.specs.List.{enumerate_from};
 ghost use Rattle.rows.specs.Law.{targets_max};
-ghost use Rattle.chart.specs.Layout.{row_bytes, need_byte, count_byte, target_bytes, row_of};
-ghost use Rattle.chart.specs.Check.{all_zero, row_right, first_wrong_row};
+ghost use Rattle.chart.specs.Layout.{need_byte, count_byte, target_bytes, row_of};
+ghost use Rattle.chart.specs.Check.{all_zero, row_right};
 
 use rows::{TARGETS_MAX, row_fits};
 use tables::JOBS_MAX;
@@ -10,85 +11,70 @@ use tables::JOBS_MAX;
 // How many bytes a job has: its need, its number of targets, and sixteen target bytes.
 pub const ROW_BYTES: usize = 18;
 
+// The bytes of a job.
+pub type RowBytes = [u8; ROW_BYTES];
+
 // How many bytes a chart has at most: those of 256 jobs.
 pub const CHART_MAX: usize = ROW_BYTES * JOBS_MAX;
 
-// Where the target bytes of a job begin.
-const TARGETS_START: usize = 2;
+// Where the parts of a job's bytes begin.
+const NEED: usize = 0;
 
-// The bytes of a job.
-pub fn job_bytes(bytes: &[u8], job: usize) -> &[u8]
-    requires { row_bytes * job + row_bytes ≤ length bytes.now }
-    ensures value { result.now ≡ take row_bytes (drop (row_bytes * job) bytes.now) }
-    ensures size { length result.now ≡ row_bytes }
-{
-    &bytes[ROW_BYTES * job..ROW_BYTES * job + ROW_BYTES]
-}
+const COUNT: usize = 1;
+
+const TARGETS: usize = 2;
 
 // The need that a job's bytes say.
-pub fn need_in(row: &[u8]) -> u8
-    requires { length row.now ≡ row_bytes }
+pub fn need_in(row: &RowBytes) -> u8
     ensures { result ≡ need_byte row.now }
 {
-    row[0]
+    row[NEED]
 }
 
 // The number of targets that a job's bytes say.
-pub fn count_in(row: &[u8]) -> usize
-    requires { length row.now ≡ row_bytes }
+pub fn count_in(row: &RowBytes) -> usize
     ensures { result ≡ count_byte row.now }
 {
-    row[1] as usize
+    row[COUNT] as usize
 }
 
 // The target bytes in use.
-pub fn targets_in(row: &[u8]) -> &[u8]
-    requires { (length row.now ≡ row_bytes) × (count_byte row.now ≤ targets_max) }
+pub fn targets_in(row: &RowBytes) -> &[u8]
+    requires { count_byte row.now ≤ targets_max }
     ensures { result.now ≡ (row_of row.now).targets }
 {
-    &row[TARGETS_START..TARGETS_START + count_in(row)]
+    &row[TARGETS..TARGETS + count_in(row)]
 }
 
 // The target bytes that are not in use.
-fn unused_in(row: &[u8]) -> &[u8]
-    requires { (length row.now ≡ row_bytes) × (count_byte row.now ≤ targets_max) }
+fn unused_in(row: &RowBytes) -> &[u8]
+    requires { count_byte row.now ≤ targets_max }
     ensures { result.now ≡ drop (count_byte row.now) (target_bytes row.now) }
 {
-    &row[TARGETS_START + count_in(row)..]
+    &row[TARGETS + count_in(row)..]
 }
 
 // Whether every byte is 0.
 fn all_zero(bytes: &[u8]) -> bool
     ensures { result ≡ all_zero bytes.now }
 {
-    for byte in bytes {
-        if *byte != 0 {
-            return false;
-        }
-    }
-    true
+    bytes.iter().all(|byte| *byte == 0)
 }
 
 // Whether the bytes of `job`, one of `jobs` jobs, are right.
-fn is_right(jobs: usize, job: usize, row: &[u8]) -> bool
-    requires { length row.now ≡ row_bytes }
+fn is_right(jobs: usize, job: usize, row: &RowBytes) -> bool
     ensures { result ≡ row_right jobs job row.now }
 {
-    if count_in(row) > TARGETS_MAX {
-        return false;
-    }
-    row_fits(jobs, job, need_in(row), targets_in(row)) && all_zero(unused_in(row))
+    count_in(row) <= TARGETS_MAX
+        && row_fits(jobs, job, need_in(row), targets_in(row))
+        && all_zero(unused_in(row))
 }
 
-// The first of `jobs` jobs whose bytes are not right.
-pub fn first_wrong_row(jobs: usize, bytes: &[u8]) -> Option<usize>
-    requires { row_bytes * jobs ≤ length bytes.now }
-    ensures { result ≡ first_wrong_row jobs 0 jobs bytes.now }
+// The first job whose bytes are not right.
+pub fn first_wrong_row(rows: &[RowBytes]) -> Option<usize>
+    ensures { result ≡ position (λ r. not (row_right (length rows.now) r.0 r.1)) (enumerate_from 0 rows.now) }
 {
-    for job in 0..jobs {
-        if !is_right(jobs, job, job_bytes(bytes, job)) {
-            return Some(job);
-        }
-    }
-    None
+    rows.iter()
+        .enumerate()
+        .position(|(job, row)| !is_right(rows.len(), job, row))
 }

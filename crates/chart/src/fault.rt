@@ -2,7 +2,7 @@
 mod tells;
 
 // The length, or the row of a job.
-#[derive(Clone, Copy, PartialEq, Eq)]
+#[derive(Clone, Copy, Debug, PartialEq, Eq)]
 pub enum ChartFault {
     WrongLength,
     WrongRow(usize),

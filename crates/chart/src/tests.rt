@@ -90,3 +90,13 @@ fn three_jobs(rt: HostRuntime) {
         assert!(rt; chart.waiter(job, place) == waiter);
     }
 }
+
+#[test]
+fn walks(rt: HostRuntime) {
+    let bytes = right();
+    let chart = Chart::new(&bytes);
+    assert!(rt; chart.targets(0).eq([1, 2]));
+    assert!(rt; chart.targets(3).eq([]));
+    assert!(rt; chart.waiters(2).eq([0, 1]));
+    assert!(rt; chart.waiters(0).eq([]));
+}

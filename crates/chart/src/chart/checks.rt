@@ -1,33 +1,44 @@
 // Checking bytes, and making a chart of them.
-ghost use Rattle.std.specs.Prelude.{◌≡◌};
+ghost use Rattle.std.specs.Prelude.{◌≡◌, IfOk, length};
+ghost use Rattle.std.specs.Simd.{first_chunks};
+ghost use Rattle.chart.specs.Layout.{row_bytes};
 ghost use Rattle.chart.specs.Check.{checked, chart_rows};
-ghost use Rattle.chart.specs.Views.{rows_of};
+ghost use Rattle.chart.specs.Views.{rows_of, counted};
 
-use crate::bytes::{CHART_MAX, ROW_BYTES, first_wrong_row};
+use crate::bytes::{CHART_MAX, ROW_BYTES, RowBytes, first_wrong_row};
 use crate::chart::Chart;
 use crate::fault::ChartFault;
+
+// The rows that lie in the bytes, or the first reason why the bytes are no chart.
+fn checked_rows(bytes: &[u8]) -> Result<&[RowBytes], ChartFault>
+    ensures counted { counted result ≡ checked bytes.now }
+    ensures rows { IfOk result (λ rows. rows.now ≡ first_chunks row_bytes (length rows.now) bytes.now) }
+{
+    let length = bytes.len();
+    if length == 0 || length % ROW_BYTES != 0 || length > CHART_MAX {
+        return Err(ChartFault::WrongLength);
+    }
+    let (rows, _) = bytes.as_chunks();
+    match first_wrong_row(rows) {
+        Some(job) => Err(ChartFault::WrongRow(job)),
+        None => Ok(rows),
+    }
+}
 
 impl<'a> Chart<'a> {
     // The number of jobs, or the first reason why the bytes are no chart.
     pub fn check(bytes: &[u8]) -> Result<usize, ChartFault>
         ensures { result ≡ checked bytes.now }
     {
-        let length = bytes.len();
-        if length == 0 || length % ROW_BYTES != 0 || length > CHART_MAX {
-            return Err(ChartFault::WrongLength);
-        }
-        let jobs = length / ROW_BYTES;
-        if let Some(job) = first_wrong_row(jobs, bytes) {
-            return Err(ChartFault::WrongRow(job));
-        }
-        Ok(jobs)
+        Ok(checked_rows(bytes)?.len())
     }
 
     // The chart that lies in the bytes; refused bytes have no jobs.
     pub fn new(bytes: &'a [u8]) -> Chart<'a>
         ensures { rows_of result ≡ chart_rows bytes.now }
     {
-        let jobs = Chart::check(bytes).unwrap_or(0);
-        Chart { bytes, jobs }
+        Chart {
+            rows: checked_rows(bytes).unwrap_or(&[]),
+        }
     }
 }

@@ -3,7 +3,7 @@ ghost use Rattle.std.specs.Prelude.{◌≡◌};
 ghost use Rattle.rows.specs.Waiting.{at};
 ghost use Rattle.chart.specs.Views.{rows_of};
 
-use crate::bytes::{job_bytes, need_in, targets_in};
+use crate::bytes::{need_in, targets_in};
 use crate::chart::Chart;
 use tables::{Table, TwoWayTable};
 
@@ -12,10 +12,9 @@ impl<'a> Chart<'a> {
     fn targets_of(&self, job: usize) -> &[u8]
         ensures { result.now ≡ (at (rows_of self.now) job).targets }
     {
-        if job < self.jobs {
-            targets_in(job_bytes(self.bytes, job))
-        } else {
-            &[]
+        match self.rows.get(job) {
+            Some(row) => targets_in(row),
+            None => &[],
         }
     }
 }
@@ -24,15 +23,11 @@ impl<'a> Table for Chart<'a> {
     ghost rows = { rows_of };
 
     fn jobs(&self) -> usize {
-        self.jobs
+        self.rows.len()
     }
 
     fn need(&self, job: usize) -> u8 {
-        if job < self.jobs {
-            need_in(job_bytes(self.bytes, job))
-        } else {
-            0
-        }
+        self.rows.get(job).map_or(0, need_in)
     }
 
     fn target_count(&self, job: usize) -> usize {
@@ -40,12 +35,7 @@ impl<'a> Table for Chart<'a> {
     }
 
     fn target(&self, job: usize, place: usize) -> Option<u8> {
-        let targets = self.targets_of(job);
-        if place < targets.len() {
-            Some(targets[place])
-        } else {
-            None
-        }
+        self.targets_of(job).get(place).copied()
     }
 }
 

@@ -1,17 +1,12 @@
--- The scan for a byte other than 0, turn by turn.
-use Rattle.std.proofs.Common.{sym, ◌∙◌}
-use Rattle.std.proofs.lemmas.List.{at_drop_all}
-use Rattle.chart.specs.Check.{all_zero}
-use Rattle.chart.proofs.Scans.{another_byte_is_not_all_zero, all_zero_goes_past_a_zero}
+-- All bytes are 0.
+use Rattle.std.proofs.Common.{eqb, rules, ◌∙◌}
+use Rattle.std.proofs.lemmas.Iterator.{YieldsList-from_slice}
+use Rattle.std.proofs.lemmas.Iterator.Search.{all_from_yields_List}
+use Rattle.chart.proofs.Scans.{all_are_zero}
 use Rattle.chart.proofs.bytes.all_zero.Goals as goal
-
-pub returns-then-byte-ne0 : goal.returns-then-byte-ne0
-returns-then-byte-ne0 c =
-    sym (another_byte_is_not_all_zero c.loop-byte.byte-index c.args.bytes.now c.loop-byte-test.true c.if-byte-ne0.true) ∙ c.loop-byte.invariant
-
-pub loop-byte-preserved : goal.loop-byte-preserved
-loop-byte-preserved c =
-    sym (all_zero_goes_past_a_zero c.loop-byte.byte-index c.args.bytes.now c.loop-byte-test.true c.if-byte-ne0.false) ∙ c.loop-byte.invariant
+use borrow.Author.Tests.{tests}
 
 pub returns : goal.returns
-returns c = sym (at_drop_all all_zero c.args.bytes.now c.loop-byte.byte-index c.loop-byte-test.false) ∙ c.loop-byte.invariant
+returns c =
+    all_from_yields_List (λ b. eqb b 0) _ _ c.all.result c.all.ensures.ran (YieldsList-from_slice c.args.bytes.now cc) (λ x b q k. search (rules, tests))
+    ∙ all_are_zero c.args.bytes.now

@@ -1,16 +1,11 @@
--- The target at a place within the targets, and past them.
-use Rattle.std.proofs.Common.{ℕ, List, sym, ap, ◌∙◌}
+-- The item of the targets is the target at the place.
+use Rattle.std.proofs.Common.{ℕ, List, ap, ◌∙◌}
 use Rattle.rows.specs.Waiting.{target_at}
-use Rattle.tables.proofs.Targets.{target_past_is_none}
-use Rattle.chart.proofs.Rows.{target_within_is_some}
+use Rattle.rows.proofs.Reading.{item_is_target}
 use Rattle.chart.proofs.chart.reads.ChartTable.target.Goals as goal
 
-pub returns-then-place-targets : goal.returns-then-place-targets
-returns-then-place-targets c =
-    let targets = c.targets_of-targets.result.now in
-    sym (target_within_is_some targets c.args.place c.if-place-targets.true) ∙ ap (λ (ts : List ℕ). target_at ts c.args.place) c.targets_of-targets.ensures
-
-pub returns-else-place-targets : goal.returns-else-place-targets
-returns-else-place-targets c =
-    let targets = c.targets_of-targets.result.now in
-    sym (target_past_is_none targets c.args.place c.if-place-targets.false) ∙ ap (λ (ts : List ℕ). target_at ts c.args.place) c.targets_of-targets.ensures
+pub returns : goal.returns
+returns c =
+    c.copied.ensures
+    ∙ (item_is_target c.targets_of.result.now c.args.place c.get.result c.get.ensures.lookup
+    ∙ ap (λ (ts : List ℕ). target_at ts c.args.place) c.targets_of.ensures)
