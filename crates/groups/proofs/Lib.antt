@@ -2,5 +2,4 @@ pub mod Obeyed
 pub mod Parts
 pub mod Shown
 pub mod Stepped
-pub mod Tops
 pub mod Viewed

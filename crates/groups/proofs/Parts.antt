@@ -1,9 +1,9 @@
 -- The trail cut at the groups' starts, before and after each call.
-use Rattle.std.proofs.Common.{◌≡◌, ℕ, suc, ◌<◌, ◌≤◌, true, List, [], ◌∷◌, ◌++◌, length, take, drop, sym, refl, ap, ◌∙◌, arith}
-use Rattle.std.proofs.lemmas.List.{drop-append-le, take-append-le, take-append-drop, take-take, drop_all, take_all, length-take-le, length-drop, length_push}
+use Rattle.std.proofs.Common.{◌≡◌, ℕ, suc, ◌<◌, ◌≤◌, true, Option, Some, None, IsSome, List, [], ◌∷◌, ◌++◌, length, reverse, take, drop, sym, refl, ap, ◌∙◌, arith}
+use Rattle.std.proofs.lemmas.List.{drop-append-le, take-append-le, take-append-drop, take-take, drop_all, take_all, length-take-le, length-drop, length_push, length-append, length-reverse, reverse-append}
+use Rattle.std.specs.Option.{option_to_list, unwrap_or}
 use Rattle.std.proofs.lemmas.Bool.Decides.{nat_tests}
 use Rattle.groups.specs.declared.store.Old.{Old}
-use Rattle.groups.specs.Starts.{Popped}
 use Rattle.groups.specs.State.{total, noted, merged, unwound, restored, outside}
 use Rattle.groups.specs.Memory.{parts, tidy}
 
@@ -18,7 +18,7 @@ tidy_longer n m [] p l t = absurd (omega arith)
 tidy_longer n m (s ∷ ss) p l t = grind (arith, nat_tests)
 
 module _ {X : Type 0} where
-  pub length_parts : (xs : List X) (ss : List ℕ) → length (parts xs ss) ≡ length ss
+  length_parts : (xs : List X) (ss : List ℕ) → length (parts xs ss) ≡ length ss
   length_parts xs [] = refl
   length_parts xs (s ∷ ss) = ap suc (length_parts (take s xs) ss)
 
@@ -29,7 +29,7 @@ module _ {X : Type 0} where
       rw l (tidy_outside (length xs) s ss t)
 
   -- every record of a tidy trail belongs to a group
-  pub total_parts : (xs : List X) (ss : List ℕ) → tidy (length xs) ss ≡ true → total (parts xs ss) ≡ length xs
+  total_parts : (xs : List X) (ss : List ℕ) → tidy (length xs) ss ≡ true → total (parts xs ss) ≡ length xs
   total_parts xs [] t = grind (arith, nat_tests)
   total_parts xs (s ∷ ss) t =
       let w = tidy_within (length xs) s ss t in
@@ -37,7 +37,7 @@ module _ {X : Type 0} where
       omega (arith, length-take-le s xs w, length-drop s xs)
 
   -- a record more goes to the innermost group
-  pub parts_noted : (xs : List X) (ss : List ℕ) (x : X) → 0 < length ss → tidy (length xs) ss ≡ true → (tidy (length (xs ++ x ∷ [])) ss ≡ true) × (parts (xs ++ x ∷ []) ss ≡ noted (parts xs ss) x)
+  parts_noted : (xs : List X) (ss : List ℕ) (x : X) → 0 < length ss → tidy (length xs) ss ≡ true → (tidy (length (xs ++ x ∷ [])) ss ≡ true) × (parts (xs ++ x ∷ []) ss ≡ noted (parts xs ss) x)
   parts_noted xs [] x p t = absurd (omega arith)
   parts_noted xs (s ∷ ss) x p t =
       let l = tidy_within (length xs) s ss t in
@@ -49,7 +49,7 @@ module _ {X : Type 0} where
   parts_outside xs [] x l = refl
   parts_outside xs (s ∷ ss) x l = absurd (omega arith)
 
-  pub parts_opened : (xs : List X) (ss : List ℕ) → tidy (length xs) ss ≡ true → (tidy (length xs) (length xs ∷ ss) ≡ true) × (parts xs (length xs ∷ ss) ≡ [] ∷ parts xs ss)
+  parts_opened : (xs : List X) (ss : List ℕ) → tidy (length xs) ss ≡ true → (tidy (length xs) (length xs ∷ ss) ≡ true) × (parts xs (length xs ∷ ss) ≡ [] ∷ parts xs ss)
   parts_opened xs ss t =
       let n : length xs ≤ length xs = omega arith in
       (grind (arith, nat_tests), ap (λ ys. ys ∷ parts (take (length xs) xs) ss) (drop_all (length xs) xs n) ∙ ap (λ ys. [] ∷ parts ys ss) (take_all (length xs) xs n))
@@ -60,22 +60,50 @@ module _ {X : Type 0} where
       ap (drop t) (sym (take-append-drop s xs)) ∙ drop-append-le t (take s xs) (drop s xs) n
 
   -- with the innermost start gone, its records are the next group's
-  pub parts_kept : (xs : List X) (ss ts : List ℕ) (s : ℕ) → Popped ss ts s → 0 < length ts → tidy (length xs) ss ≡ true → (tidy (length xs) ts ≡ true) × (parts xs ts ≡ merged (parts xs ss))
-  parts_kept xs [] ts s p l t = absurd (omega (arith, ap length p.0))
-  parts_kept xs (r ∷ []) ts s p l t = absurd (omega (arith, ap length p.0))
-  parts_kept xs (r ∷ (q ∷ ss)) ts s p l t =
-      let m = tidy_within (length xs) r (q ∷ ss) t in
-      let k = tidy_within r q ss (tidy_outside (length xs) r (q ∷ ss) t) in
-      rw p.0 (tidy_longer r (length xs) (q ∷ ss) (omega arith) m (tidy_outside (length xs) r (q ∷ ss) t), ap (λ ys. ys ∷ parts (take q xs) ss) (drop_split xs q r k m) ∙ ap (λ ys. (drop q (take r xs) ++ drop r xs) ∷ parts ys ss) (sym (take-take q r xs k)))
+  merged_parts : (xs : List X) (ss : List ℕ) (s : ℕ) → 0 < length ss → tidy (length xs) (s ∷ ss) ≡ true → (tidy (length xs) ss ≡ true) × (parts xs ss ≡ merged (parts xs (s ∷ ss)))
+  merged_parts xs [] s l t = absurd (omega arith)
+  merged_parts xs (q ∷ ss) s l t =
+      let m = tidy_within (length xs) s (q ∷ ss) t in
+      let k = tidy_within s q ss (tidy_outside (length xs) s (q ∷ ss) t) in
+      (tidy_longer s (length xs) (q ∷ ss) (omega arith) m (tidy_outside (length xs) s (q ∷ ss) t), ap (λ ys. ys ∷ parts (take q xs) ss) (drop_split xs q s k m) ∙ ap (λ ys. (drop q (take s xs) ++ drop s xs) ∷ parts ys ss) (sym (take-take q s xs k)))
 
-  -- the outermost start gone and the trail empty, no group has records
-  pub parts_emptied : (xs ys : List X) (ss ts : List ℕ) (s : ℕ) → Popped ss ts s → length ts ≤ 0 → ys ≡ [] → (tidy (length ys) ts ≡ true) × (parts ys ts ≡ merged (parts xs ss))
-  parts_emptied xs ys [] ts s p l e = rw (e, p.0) (refl, refl)
-  parts_emptied xs ys (r ∷ []) ts s p l e = rw (e, p.0) (refl, refl)
-  parts_emptied xs ys (r ∷ (q ∷ ss)) ts s p l e = absurd (omega (arith, ap length p.0))
+  -- the same of starts that stand with the innermost last
+  pub depth_of : (xs : List X) (starts : List ℕ) → length (parts xs (reverse starts)) ≡ length starts
+  depth_of xs starts = length_parts xs (reverse starts) ∙ length-reverse starts
+
+  pub used_of : (xs : List X) (starts : List ℕ) → tidy (length xs) (reverse starts) ≡ true → total (parts xs (reverse starts)) ≡ length xs
+  used_of xs starts t = total_parts xs (reverse starts) t
+
+  pub opened_parts : (xs : List X) (before after : List ℕ) → after ≡ before ++ length xs ∷ [] → tidy (length xs) (reverse before) ≡ true → (tidy (length xs) (reverse after) ≡ true) × (parts xs (reverse after) ≡ [] ∷ parts xs (reverse before))
+  opened_parts xs before after e t =
+      let r : reverse after ≡ length xs ∷ reverse before = ap reverse e ∙ reverse-append before (length xs ∷ []) in
+      rw r (parts_opened xs (reverse before) t)
+
+  pub noted_parts : (xs : List X) (starts : List ℕ) (x : X) → 0 < length starts → tidy (length xs) (reverse starts) ≡ true → (tidy (length (xs ++ x ∷ [])) (reverse starts) ≡ true) × (parts (xs ++ x ∷ []) (reverse starts) ≡ noted (parts xs (reverse starts)) x)
+  noted_parts xs starts x l t =
+      let n : 0 < length (reverse starts) = omega (arith, length-reverse starts) in
+      parts_noted xs (reverse starts) x n t
+
+  pub kept_parts : (xs : List X) (before after : List ℕ) (x : Option ℕ) → before ≡ after ++ option_to_list x → (0 < length before → IsSome x) → 0 < length after → tidy (length xs) (reverse before) ≡ true → (tidy (length xs) (reverse after) ≡ true) × (parts xs (reverse after) ≡ merged (parts xs (reverse before)))
+  kept_parts xs before after None e v l t =
+      let n : 0 < length before = omega (arith, ap length e, length-append after []) in
+      absurd (cc (v n))
+  kept_parts xs before after (Some s) e v l t =
+      let r : reverse before ≡ s ∷ reverse after = ap reverse e ∙ reverse-append after (s ∷ []) in
+      let n : 0 < length (reverse after) = omega (arith, length-reverse after) in
+      rw r (merged_parts xs (reverse after) s n (rw r at t))
+
+  pub emptied_parts : (xs : List X) (before after : List ℕ) (x : Option ℕ) → before ≡ after ++ option_to_list x → length after ≡ 0 → merged (parts xs (reverse before)) ≡ []
+  emptied_parts xs before [] None e l = rw e
+  emptied_parts xs before [] (Some s) e l = rw e
+  emptied_parts xs before (a ∷ rest) x e l = absurd (omega arith)
 
 -- the innermost group's records put back and freed
-pub parts_cancelled : {P : Type 0} (rows : List P) (xs : List (Old P)) (ss ts : List ℕ) (s : ℕ) → Popped ss ts s → tidy (length xs) ss ≡ true → (tidy (length (take s xs)) ts ≡ true) × (unwound rows (drop s xs) ≡ restored rows (parts xs ss)) × (parts (take s xs) ts ≡ outside (parts xs ss))
-parts_cancelled rows [] [] ts s p t = rw (p.0, p.1) (refl, refl, refl)
-parts_cancelled rows (x ∷ xs) [] ts s p t = absurd (grind (arith, nat_tests))
-parts_cancelled rows xs (r ∷ ss) ts s p t = rw (p.0, p.1) (tidy_front xs r ss t, refl, refl)
+pub cancelled_parts : {P : Type 0} (rows : List P) (xs : List (Old P)) (before after : List ℕ) (x : Option ℕ) → before ≡ after ++ option_to_list x → (0 < length before → IsSome x) → tidy (length xs) (reverse before) ≡ true → (tidy (length (take (unwrap_or x 0) xs)) (reverse after) ≡ true) × (unwound rows (drop (unwrap_or x 0) xs) ≡ restored rows (parts xs (reverse before))) × (parts (take (unwrap_or x 0) xs) (reverse after) ≡ outside (parts xs (reverse before)))
+cancelled_parts rows [] [] [] None e v t = (refl, refl, refl)
+cancelled_parts rows (x ∷ xs) [] [] None e v t = absurd (grind (arith, nat_tests))
+cancelled_parts rows xs (b ∷ bs) after None e v t = absurd (cc (v (omega arith)))
+cancelled_parts rows xs [] (a ∷ rest) None e v t = absurd (omega (arith, ap length e))
+cancelled_parts rows xs before after (Some s) e v t =
+    let r : reverse before ≡ s ∷ reverse after = ap reverse e ∙ reverse-append after (s ∷ []) in
+    rw r (tidy_front xs s (reverse after) (rw r at t), refl, refl)

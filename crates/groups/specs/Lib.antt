@@ -2,7 +2,7 @@ pub mod Limits
 pub mod State
 pub mod History
 pub mod Shows
-pub mod Starts
 pub mod Memory
 pub mod Obeys
 pub mod Views
+pub mod Tickets

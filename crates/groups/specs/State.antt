@@ -46,6 +46,10 @@ abbrev pub noted : {X : Type 0} → List (List X) → X → List (List X)
 noted [] x = []
 noted (g ∷ gs) x = (g ++ x ∷ []) ∷ gs
 
+-- The same of a state, in which nothing else changes.
+abbrev pub noting : {P : Type 0} → State P → Old P → State P
+noting s old = record { rows = s.rows; groups = noted s.groups old; mark = s.mark; room = s.room }
+
 -- A write, with what stood there kept for the innermost group.
 abbrev pub written : {P : Type 0} → State P → ℕ → P → State P
 written s job row = record {

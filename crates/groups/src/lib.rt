@@ -1,8 +1,6 @@
 // Rows of any copyable type, with nested undo: a group of writes is kept, or cancelled as a whole.
 #![tactic(auto)]
 
-mod cells;
-mod starts;
 mod store;
 
-pub use store::{DEPTH_MAX, Groups, Old, ROWS, Returned, TRAIL_MAX, Ticket};
+pub use store::{DEPTH_MAX, Groups, Old, ROWS, Returned, TRAIL_MAX, Ticket, TrailFull};

@@ -1,12 +1,15 @@
 // The rows, the trail and the open groups.
 mod calls;
 
-pub use crate::starts::DEPTH_MAX;
-use crate::starts::Starts;
-use containers::Stack;
+use arrayvec::ArrayVec;
+use containers::{Full, Stack};
+use std::marker::Model;
 
 // How many rows there are: one for each number of a byte.
 pub const ROWS: usize = 256;
+
+// How many groups are open at most, one in another.
+pub const DEPTH_MAX: usize = 8;
 
 // How many old rows the trail holds at most, however much memory is lent.
 pub const TRAIL_MAX: usize = 1024;
@@ -16,6 +19,16 @@ pub const TRAIL_MAX: usize = 1024;
 pub struct Old<P> {
     pub job: u8,
     pub row: P,
+}
+
+// The refusal of a write: the trail has no room for the old row.
+#[derive(Clone, Copy, Drop, PartialEq, Eq, Debug)]
+pub struct TrailFull;
+
+impl From<Full> for TrailFull {
+    fn from(_full: Full) -> TrailFull {
+        TrailFull
+    }
 }
 
 // The right to end a group: whoever has it must hand it back. It can be neither copied nor let go.
@@ -29,11 +42,25 @@ pub struct Returned {
     ticket: Ticket,
 }
 
-// The rows; the trail, old rows in lent memory; where each open group's part of the trail begins; and the mark of the tickets.
+// The rows; the trail, old rows in lent memory; where each open group's part of the trail begins, the innermost last; and the
+// mark of the tickets.
 #[derive(Drop)]
 pub struct Groups<'a, P> {
     rows: [P; ROWS],
     trail: Stack<'a, Old<P>>,
-    starts: Starts,
+    starts: ArrayVec<usize, DEPTH_MAX>,
     mark: u16,
+}
+
+impl<'a, P> Model for Groups<'a, P> {
+    ghost use Rattle.std.specs.Prelude.{◌≡◌, min, true, length, reverse};
+    ghost use Rattle.groups.specs.Limits.{trail_max};
+    ghost use Rattle.groups.specs.Memory.{parts, tidy};
+    ghost use Rattle.groups.specs.State.{State};
+
+    ghost Value = { State P };
+
+    ghost view = { λ g. record { rows = g.rows; groups = parts g.trail.items (reverse g.starts.items); mark = g.mark; room = min g.trail.capacity trail_max } };
+
+    ghost invariant = { λ g. tidy (length g.trail.items) (reverse g.starts.items) ≡ true };
 }

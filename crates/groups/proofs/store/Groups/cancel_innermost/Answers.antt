@@ -1,9 +1,8 @@
-use Rattle.std.proofs.Common.{ap}
-use Rattle.groups.specs.Starts.{starts_of}
-use Rattle.groups.proofs.Stepped.{cancel_steps}
+use Rattle.groups.proofs.Parts.{cancelled_parts}
 use Rattle.groups.proofs.store.Groups.cancel_innermost.Goals as goal
 
-pub returns : goal.returns
-returns g c =
-    let u = c.unwind.ensures in
-    cancel_steps c.args.self.now c.unwind.new.self (starts_of c.pop-start.new.self) c.pop-start.result c.pop-start.ensures (ap starts_of u.same.0) u.same.1 u.same.2 u.items u.rows
+pub invariant_of-self : goal.invariant_of-self
+invariant_of-self g c =
+    let s = c.self.inside in
+    let p = c.pop.ensures in
+    rw (c.unwind.ensures.trail, c.unwrap_or-start.ensures) (cancelled_parts s.rows s.trail.items s.starts.items c.pop.new.self.items c.pop.result p.items p.variant.1 c.self.invariant).0

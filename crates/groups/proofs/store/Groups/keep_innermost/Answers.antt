@@ -1,14 +1,17 @@
 use Rattle.std.proofs.Common.{refl, arith}
-use Rattle.groups.specs.Starts.{starts_of}
-use Rattle.groups.proofs.Stepped.{keep_steps, empty_steps}
+use Rattle.std.proofs.lemmas.Bool.Decides.{nat_tests}
+use Rattle.groups.proofs.Parts.{kept_parts}
+use Rattle.groups.proofs.Stepped.{same_state}
 use Rattle.groups.proofs.store.Groups.keep_innermost.Goals as goal
 
-pub returns-then-len-eq0 : goal.returns-then-len-eq0
-returns-then-len-eq0 g c =
-    let v = c.args.self.now in
-    empty_steps v (record { rows = v.rows; trail = c.clear.new.self; starts = c.pop.new.self; mark = v.mark }) (starts_of c.pop.new.self) c.pop.result c.pop.ensures (omega arith) refl refl c.clear.ensures.items c.clear.ensures.capacity refl
+pub invariant_of-self-else-is_empty : goal.invariant_of-self-else-is_empty
+invariant_of-self-else-is_empty g c =
+    let s = c.self.inside in
+    let p = c.pop.ensures in
+    (kept_parts s.trail.items s.starts.items c.pop.new.self.items c.pop.result p.items p.variant.1 (grind (arith, nat_tests)) c.self.invariant).0
 
-pub returns-else-len-eq0 : goal.returns-else-len-eq0
-returns-else-len-eq0 g c =
-    let v = c.args.self.now in
-    keep_steps v (record { rows = v.rows; trail = v.trail; starts = c.pop.new.self; mark = v.mark }) (starts_of c.pop.new.self) c.pop.result c.pop.ensures (omega arith) refl refl refl refl
+pub returns-else-is_empty : goal.returns-else-is_empty
+returns-else-is_empty g c =
+    let s = c.self.inside in
+    let p = c.pop.ensures in
+    rw (← c.self.view_is) (same_state refl (kept_parts s.trail.items s.starts.items c.pop.new.self.items c.pop.result p.items p.variant.1 (grind (arith, nat_tests)) c.self.invariant).1 refl refl)
