@@ -10,7 +10,7 @@ use Rattle.groups.proofs.Shown.{shows_face, write_shows, open_shows, keep_shows,
 use Rattle.groups.proofs.Viewed.{length-unwound}
 use Rattle.book.specs.Calls.{Edit, Call, edits, opens, keeps, cancels, job_of, next_row, changed}
 use Rattle.book.specs.Answers.{Answer, accepted, answer, says, after}
-use Rattle.book.specs.History.{answers, counted, fed, terms, Shows, Follows}
+use Rattle.book.specs.History.{answers, counted, fed, terms, Shows, Follows, Called}
 
 length-restored : (rows : List Waiting) (gs : List (List (Old Waiting))) → length (restored rows gs) ≡ length rows
 length-restored rows [] = refl
@@ -41,8 +41,11 @@ after_shows s c h w = go (accepted (says s c)) (accepted (answers (terms s) h c)
     go true false e = let z : ◌≡◌ {A = ℕ} 0 1 = cc in absurd (omega native.Mathlib.Omega.arith)
     go false true e = let z : ◌≡◌ {A = ℕ} 0 1 = cc in absurd (omega native.Mathlib.Omega.arith)
 
-pub follows : (s : State Waiting) (c : Call) (a : Answer) (s' : State Waiting) → a ≡ says s c → s' ≡ after s c → Follows s c a s'
+follows : (s : State Waiting) (c : Call) (a : Answer) (s' : State Waiting) → a ≡ says s c → s' ≡ after s c → Follows s c a s'
 follows s c a s' e f h w = (e ∙ says_answers s c h w, subst (λ t. Shows t (fed (terms s) h c)) (sym f) (after_shows s c h w))
+
+pub called : (s : State Waiting) (c : Call) (a : Answer) (s' : State Waiting) → a ≡ says s c → s' ≡ after s c → Called s c a s'
+called s c a s' e f = record { value = e; after = f; shows = follows s c a s' e f }
 
 -- a new book shows the history in which nothing has happened
 pub fresh_shows : (s : State Waiting) (n mark memory : ℕ) → s ≡ fresh n idle mark memory → Shows s begun

@@ -1,16 +1,18 @@
 -- The rows that the book shows, read off the rows that it stores.
-use Rattle.std.proofs.Common.{◌≡◌, ℕ, zero, suc, ◌+◌, ◌<◌, ◌≤◌, true, ◌&&◌, List, [], ◌∷◌, map, length, get_or, take, sym, refl, ap, ◌∙◌, subst, arith}
+use Rattle.std.proofs.Common.{◌≡◌, ℕ, zero, suc, ◌+◌, ◌<◌, ◌≤◌, true, ◌&&◌, List, [], ◌∷◌, map, length, get_or, take, sym, refl, ap, ◌∙◌, Result, Ok, Err, IsOk, subst, arith}
 use Rattle.std.proofs.lemmas.List.{length-map, length-take-le, get_or-map, get_or-take, get_or_past}
 use Rattle.std.proofs.lemmas.Bool.{and_from, and_parts}
 use Rattle.rows.specs.declared.plain.PlainRow.{PlainRow}
 use Rattle.rows.specs.Waiting.{Waiting, idle, at}
 use Rattle.rows.specs.Law.{row_fits, sound}
-use Rattle.rows.specs.Views.{waiting, plain_fits}
+use Rattle.rows.specs.declared.plain.Row.{Row}
+use Rattle.rows.specs.declared.plain.LawBroken.{LawBroken}
+use Rattle.rows.specs.Views.{waiting, plain_fits, Checked}
 use Rattle.rows.proofs.Laws.{fits_sound}
-use Rattle.book.specs.declared.store.Book.{Book}
-use Rattle.book.specs.Views.{book_state}
 use Rattle.tables.specs.Tables.{rows_fit, lawful}
-use Rattle.groups.specs.Memory.{state}
+use Rattle.groups.specs.State.{State}
+use Rattle.groups.specs.Views.{view}
+use Rattle.book.specs.Memory.{Lawful}
 use Rattle.groups.specs.Obeys.{rows_obey}
 use Rattle.groups.proofs.Obeyed.{obeyed_at}
 
@@ -30,6 +32,14 @@ sound_at n rows job row e j o =
     let k : job + 0 ≡ job = omega arith in
     fits_sound n job row (ap (plain_fits n job) (e row) ∙ subst (λ i. plain_fits n i (get_or rows job row) ≡ true) k (obeyed_at (plain_fits n) 0 rows job row j o))
 
+-- a sound row passes the check as it is
+pub sound_is_checked : (p : PlainRow) (r : Result Row LawBroken) → Checked p r → sound p.need p.count p.targets ≡ true → IsOk r
+sound_is_checked p (Ok row) h o = refl
+sound_is_checked p (Err e) h o = absurd (cc (h, o))
+
+pub checked_is : (p : PlainRow) (r : Result Row LawBroken) (row : Row) → Checked p r → r ≡ Ok row → row.plain ≡ p
+checked_is p r row h e = (subst (Checked p) e h).1
+
 -- the law of the stored rows is the law of the rows that are shown
 pub seen_obeys : (n m job : ℕ) (rows : List PlainRow) → rows_obey (plain_fits n) job rows ≡ true → rows_obey (row_fits n) job (map waiting (take m rows)) ≡ true
 seen_obeys n zero job rows o = refl
@@ -45,16 +55,21 @@ fit_obeyed n job (w ∷ ws) = ap (λ b. row_fits n job w && b) (fit_obeyed n (jo
 
 -- ---- of a book
 
-pub jobs_seen : (b : Book) → length (book_state b).rows ≡ b.jobs
-jobs_seen b = length_seen b.jobs (state b.groups).rows (omega (arith, b.few, b.whole))
+module _ (n : ℕ) (s : State PlainRow) (l : Lawful n s) where
+  pub wide : n ≤ length s.rows
+  wide = omega (arith, l.few, l.whole)
 
-pub fits_seen : (b : Book) (job : ℕ) → job < b.jobs → row_fits b.jobs job (at (book_state b).rows job) ≡ true
-fits_seen b job j =
+  pub jobs_seen : length (view n waiting s).rows ≡ n
+  jobs_seen = length_seen n s.rows wide
+
+  pub lawful_seen : lawful (view n waiting s).rows ≡ true
+  lawful_seen =
+      ap (λ k. rows_fit k 0 (view n waiting s).rows) jobs_seen
+      ∙ sym (fit_obeyed n 0 (view n waiting s).rows)
+      ∙ seen_obeys n n 0 s.rows l.lawful
+
+-- a row of a lawful table
+pub fits_at : (rows : List Waiting) (job : ℕ) → lawful rows ≡ true → job < length rows → row_fits (length rows) job (at rows job) ≡ true
+fits_at rows job l j =
     let k : job + 0 ≡ job = omega arith in
-    subst (λ i. row_fits b.jobs i (at (book_state b).rows job) ≡ true) k (obeyed_at (row_fits b.jobs) 0 (book_state b).rows job idle (omega (arith, jobs_seen b)) (seen_obeys b.jobs b.jobs 0 (state b.groups).rows b.lawful))
-
-pub lawful_seen : (b : Book) → lawful (book_state b).rows ≡ true
-lawful_seen b =
-    ap (λ n. rows_fit n 0 (book_state b).rows) (jobs_seen b)
-    ∙ sym (fit_obeyed b.jobs 0 (book_state b).rows)
-    ∙ seen_obeys b.jobs b.jobs 0 (state b.groups).rows b.lawful
+    subst (λ i. row_fits (length rows) i (at rows job) ≡ true) k (obeyed_at (row_fits (length rows)) 0 rows job idle j (fit_obeyed (length rows) 0 rows ∙ l))

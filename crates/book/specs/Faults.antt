@@ -2,7 +2,9 @@
 use Rattle.std.specs.Prelude.{ℕ, Some, None, Option}
 use Rattle.rows.specs.declared.plain.RowFault.{RowFault}
 use Rattle.rows.specs.declared.plain.RowFault.TheVariants.{WrongCounts as row_counts, WrongTarget as row_target}
+use Rattle.groups.specs.declared.store.Returned.{Returned}
 use Rattle.book.specs.declared.fault.BookFault.{BookFault}
+use Rattle.book.specs.declared.fault.RefusedEnding.{RefusedEnding}
 use Rattle.book.specs.declared.fault.BookFault.TheVariants.{NoSuchJob, Blocked, WrongCounts, WrongTarget, TrailFull, GranterBlocked, NoSuchWait, TooDeep, NotInnermost}
 
 abbrev pub number : BookFault → ℕ
@@ -32,3 +34,7 @@ value NotInnermost = None
 abbrev pub of_row : RowFault → BookFault
 of_row row_counts = WrongCounts
 of_row (row_target place) = WrongTarget place
+
+-- The refusal of an ending whose ticket comes back.
+abbrev pub of_returned : Returned → RefusedEnding
+of_returned r = record { fault = NotInnermost; returned = r }

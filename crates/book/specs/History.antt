@@ -5,7 +5,7 @@ use Rattle.groups.specs.State.{State, Face}
 use Rattle.groups.specs.History.{History, join, nest, merge, forget, history_face}
 use Rattle.groups.specs.Shows.{ShowsFrom}
 use Rattle.book.specs.Calls.{Edit, Call, edits, opens, keeps, cancels, job_of, next_row}
-use Rattle.book.specs.Answers.{Answer, accepted, answer}
+use Rattle.book.specs.Answers.{Answer, accepted, answer, says, after}
 
 -- What a history is told at creation: the number of jobs, the mark, and how many records the trail has.
 pub record Terms : Type 0 where
@@ -42,3 +42,9 @@ Shows s h = ShowsFrom job_of next_row (replicate (length s.rows) idle) s h
 -- Whatever history the book shows before a call: it answers as that history, and shows that history fed the call after.
 abbrev pub Follows : State Waiting → Call → Answer → State Waiting → Type 0
 Follows s c a s' = (h : History Edit) → Shows s h → (a ≡ answers (terms s) h c) × Shows s' (fed (terms s) h c)
+
+-- A call made on a book, with its answer: it answers and changes the book by the rules, and so follows its history.
+pub record Called (s : State Waiting) (c : Call) (a : Answer) (s' : State Waiting) : Type 0 where
+  pub value : a ≡ says s c
+  pub after : s' ≡ after s c
+  pub shows : Follows s c a s'

@@ -4,6 +4,7 @@ pub mod Calls
 pub mod Answers
 pub mod History
 pub mod Views
+pub mod Memory
 pub mod Subjects
 pub mod Lent
 pub mod Commands

@@ -1,13 +1,14 @@
 // The number of a refusal, and the value that it carries.
 ghost use Rattle.std.specs.Prelude.{◌≡◌};
-ghost use Rattle.book.specs.Faults.{number, value, of_row};
+ghost use Rattle.book.specs.Faults.{number, value, of_row, of_returned};
+ghost use Rattle.book.specs.declared.fault.BookFault.TheVariants.{TrailFull as FullTrail};
 
 use crate::fault::{BookFault, RefusedEnding};
-use groups::Ticket;
+use groups::{Returned, Ticket, TrailFull};
 use rows::RowFault;
 
 impl BookFault {
-    // The refusal's number.
+    // The refusal's number, which the rules fix.
     pub fn number(&self) -> u8
         ensures { result ≡ number self.now }
     {
@@ -43,6 +44,27 @@ impl From<RowFault> for BookFault {
         match fault {
             RowFault::WrongCounts => BookFault::WrongCounts,
             RowFault::WrongTarget(place) => BookFault::WrongTarget(place),
+        }
+    }
+}
+
+// A write that the trail has no room for.
+impl From<TrailFull> for BookFault {
+    ghost from_gives = { λ _ y. y ≡ FullTrail };
+
+    fn from(_full: TrailFull) -> BookFault {
+        BookFault::TrailFull
+    }
+}
+
+// A ticket that comes back is not the innermost group's.
+impl From<Returned> for RefusedEnding {
+    ghost from_gives = { λ x y. y ≡ of_returned x };
+
+    fn from(returned: Returned) -> RefusedEnding {
+        RefusedEnding {
+            fault: BookFault::NotInnermost,
+            returned,
         }
     }
 }

@@ -1,30 +1,28 @@
 // The book as a table that is read both ways.
-ghost use Rattle.book.specs.Views.{book_state};
-
 use crate::store::Book;
 use tables::{Table, TwoWayTable};
 
 impl<'a> Table for Book<'a> {
-    ghost rows = { λ b. (book_state b).rows };
+    ghost rows = { λ b. b.rows };
 
     fn jobs(&self) -> usize {
-        self.jobs
+        self.jobs()
     }
 
     fn need(&self, job: usize) -> u8 {
-        self.row(job).need()
+        self.need(job)
     }
 
     fn target_count(&self, job: usize) -> usize {
-        self.row(job).count()
+        self.target_count(job)
     }
 
     fn target(&self, job: usize, place: usize) -> Option<u8> {
-        self.row(job).target(place)
+        self.target(job, place)
     }
 
     fn waits_for(&self, waiter: usize, job: usize) -> bool {
-        self.row(waiter).waits_for(job)
+        self.waits_for(waiter, job)
     }
 }
 

@@ -143,7 +143,7 @@ fn unwind<P: Copy>(rows: &mut [P; ROWS], trail: &mut Stack<'_, Old<P>>, start: u
         row: rows[0],
     };
     while trail.len() > start {
-        // An old row holds an array: it is taken into a place that is lent.
+        // A record that holds an array is taken into a lent place: a rule of the project.
         let _ = trail.take(&mut old);
         rows[old.job as usize] = old.row;
     }

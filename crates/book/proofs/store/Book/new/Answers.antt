@@ -1,0 +1,22 @@
+use Rattle.std.proofs.Common.{length, ap, ◌∙◌}
+use Rattle.rows.specs.Waiting.{idle}
+use Rattle.rows.specs.Views.{waiting}
+use Rattle.groups.specs.State.{fresh}
+use Rattle.groups.specs.Views.{view}
+use Rattle.groups.proofs.Viewed.{view_fresh}
+use Rattle.book.specs.Limits.{created}
+use Rattle.book.proofs.Following.{fresh_shows}
+use Rattle.book.proofs.Lawful.{fresh_lawful}
+use Rattle.book.proofs.store.Book.new.Goals as goal
+
+pub invariant_of-result : goal.invariant_of-result
+invariant_of-result c =
+    rw c.new.ensures (fresh_lawful c.created.result c.args.mark (length c.args.memory.now) c.idle.result c.created.ensures.bound c.idle.ensures.value c.idle.ensures.lawful)
+
+pub returns : goal.returns
+returns c =
+    let n = c.created.result in
+    let mark = c.args.mark in
+    let memory = length c.args.memory.now in
+    let made = ap (view n waiting) c.new.ensures ∙ view_fresh n waiting 256 c.idle.result mark memory c.created.ensures.bound ∙ ap (λ r. fresh n r mark memory) c.idle.ensures.value ∙ ap (λ k. fresh k idle mark memory) c.created.ensures.value in
+    record { value = made; shows = fresh_shows _ (created c.args.jobs) mark memory made }

@@ -1,0 +1,29 @@
+use Rattle.std.proofs.Common.{refl, ap, ◌∙◌}
+use Rattle.rows.specs.Views.{waiting}
+use Rattle.groups.specs.Views.{view}
+use Rattle.book.specs.declared.fault.BookFault.TheVariants.{TrailFull}
+use Rattle.book.proofs.Told.{full_seen, not_true, not_false, carried_fault, write_lawful, write_seen}
+use Rattle.book.proofs.store.Book.write.Goals as goal
+
+pub returns-in_err-write : goal.returns-in_err-write
+returns-in_err-write c =
+    let b = c.self.inside in
+    let e = c.in_err-write.ensures in
+    rw (← c.self.view_is, full_seen b.jobs b.groups, not_false _ e.value) (record {
+      value = carried_fault c.from_residual.result TrailFull c.from_residual.ensures.1;
+      after = ap (view b.jobs waiting) e.after;
+    })
+
+pub invariant_of-self-2 : goal.invariant_of-self-2
+invariant_of-self-2 c =
+    let b = c.self.inside in
+    rw c.in_ok-write.ensures.after (write_lawful b.jobs b.groups c.self.invariant c.args.job c.args.row c.into.result c.into.ensures (rw (← c.self.view_is) at c.requires.job) (rw (← c.self.view_is) at c.requires.lawful))
+
+pub returns : goal.returns
+returns c =
+    let b = c.self.inside in
+    let e = c.in_ok-write.ensures in
+    rw (← c.self.view_is, full_seen b.jobs b.groups, not_true _ e.value) (record {
+      value = refl;
+      after = ap (view b.jobs waiting) e.after ∙ write_seen b.jobs b.groups c.self.invariant c.args.job c.args.row c.into.result c.into.ensures (rw (← c.self.view_is) at c.requires.job);
+    })
