@@ -1,3 +1,3 @@
 pub mod Counted
-pub mod Marking
 pub mod Outcome
+pub mod Steps

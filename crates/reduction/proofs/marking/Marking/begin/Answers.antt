@@ -1,0 +1,40 @@
+use Rattle.std.proofs.Common.{◌+◌, ◌<◌, length, refl, sym, ap, subst, ◌∙◌, arith}
+use Rattle.reduction.proofs.Steps.{Started, start_made, start_first, start_skip, start_can, start_mark, start_settled}
+use Rattle.reduction.proofs.marking.Marking.begin.Goals as goal
+use Rattle.reduction.proofs.marking.Marking.begin.Goals.{then-need-eq0, else-need-eq0}
+
+pub invariant_of-marking : goal.invariant_of-marking
+invariant_of-marking g c = start_made (g.T.Table.rows c.args.table.now) c.args.queue c.requires (omega (arith, c.jobs-job-end.ensures.value, c.jobs-job-end.ensures.bound))
+
+pub loop-job-init : goal.loop-job-init
+loop-job-init g c = record {
+  rows = refl;
+  started = start_first (g.T.Table.rows c.args.table.now) c.args.queue c.requires (omega (arith, c.jobs-job-end.ensures.value, c.jobs-job-end.ensures.bound));
+}
+
+pub loosen-requires : goal.loosen-requires
+loosen-requires g c =
+    let i = c.loop-job.invariant in
+    let l : c.loop-job.job < length c.loop-job.marking.rows = omega (arith, ap length i.rows, c.jobs-job-end.ensures.value, c.loop-job-test.true) in
+    start_can c.loop-job.marking c.loop-job.job l i.started (rw i.rows (sym c.need.ensures ∙ c.if-need-eq0.true))
+
+pub loop-job-preserved : goal.loop-job-preserved
+loop-job-preserved g c =
+    let i = c.loop-job.invariant in
+    let was = c.loop-job.marking in
+    let job = c.loop-job.job in
+    let l : job < length was.rows = omega (arith, ap length i.rows, c.jobs-job-end.ensures.value, c.loop-job-test.true) in
+    elim c.if-need-eq0.branch [
+      | then-need-eq0 w ↦
+          let e = w.marking-is ∙ w.loosen.ensures in
+          let can = start_can was job l i.started (rw i.rows (sym c.need.ensures ∙ w.if-need-eq0.true)) in
+          record { rows = ap (λ m. m.rows) e ∙ i.rows; started = subst (λ m. Started m (job + 1)) (sym e) (start_mark was job can i.started) }
+      | else-need-eq0 w ↦
+          let blocked = start_skip was job i.started (λ z. w.if-need-eq0.false (c.need.ensures ∙ rw i.rows at z)) in
+          record { rows = ap (λ m. m.rows) w.marking-is ∙ i.rows; started = subst (λ m. Started m (job + 1)) (sym w.marking-is) blocked }
+    ]
+
+pub returns-clause-settled : goal.returns-clause-settled
+returns-clause-settled g c =
+    let i = c.loop-job.invariant in
+    start_settled c.loop-job.marking c.loop-job.job (omega (arith, ap length i.rows, c.jobs-job-end.ensures.value, c.loop-job-test.false)) i.started
