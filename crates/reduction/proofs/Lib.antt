@@ -1,3 +1,2 @@
-pub mod Counted
 pub mod Outcome
 pub mod Steps

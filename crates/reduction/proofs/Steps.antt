@@ -1,6 +1,8 @@
 -- What marking a job keeps.
-use Rattle.std.proofs.Common.{◌≡◌, ℕ, zero, suc, ◌+◌, ◌<◌, ◌≤◌, Bool, true, false, cond, ◌||◌, eqb, leb, ◌⊎◌, List, [], ◌∷◌, ◌++◌, length, get_or, set, replicate, sym, refl, ap, ◌∙◌, subst, inl, inr, arith}
+use Rattle.std.proofs.Common.{◌≡◌, ℕ, ◌+◌, ◌<◌, ◌≤◌, Bool, true, false, cond, ◌||◌, eqb, leb, ◌⊎◌, List, [], ◌∷◌, ◌++◌, length, get_or, set, replicate, sym, refl, ap, ◌∙◌, subst, inl, inr, arith}
 use Rattle.std.proofs.lemmas.List.{length-set, length_push, length-replicate, get_or-set_same, get_or-set_other, get_or_past, get_or-replicate, get_or_default}
+use Rattle.std.proofs.lemmas.List.Sums.{count_by-le-length, sum_by-set}
+use Rattle.std.specs.List.{filter}
 use Rattle.std.proofs.lemmas.Bool.{cases_eq, cases_lt, cases_Bool, true≢false, eq-eqb, ne_eqb, eqb-true, and_parts}
 use Rattle.std.proofs.lemmas.Bool.Decides.{nat_tests}
 use Rattle.containers.specs.Held.{Held, vacant}
@@ -9,7 +11,7 @@ use Rattle.tables.specs.Closed.{count, Closed, Loosened}
 use Rattle.tables.proofs.Grants.{closed_at}
 use Rattle.reduction.specs.Marks.{loose, held, marked}
 use Rattle.tables.specs.Tables.{jobs_max}
-use Rattle.reduction.specs.Work.{Work, done, steps_left, Marks, SettledIn, Settled, at_hand, CanBeMarked, with_mark, Decided, next_is}
+use Rattle.reduction.specs.Work.{Work, loose_count, done, steps_left, Marks, SettledIn, Settled, at_hand, CanBeMarked, with_mark, Decided, next_is}
 
 -- ---- counts
 
@@ -34,29 +36,14 @@ pub count_none : (S : ℕ → Bool) (ts : List ℕ) → ((u : ℕ) → S u ≡ f
 count_none S [] e = refl
 count_none S (t ∷ ts) e = let rest = count_none S ts e in rw (e t) (omega arith)
 
--- the number of marks of one kind, when one more is set
-pub count_set : (S : ℕ → Bool) (xs : List ℕ) (i x d : ℕ) → i < length xs → S (get_or xs i d) ≡ false → S x ≡ true → count S (set xs i x) ≡ count S xs + 1
-count_set S [] i x d l a b = absurd (omega arith)
-count_set S (y ∷ ys) zero x d l a b = rw (a, b) (omega arith)
-count_set S (y ∷ ys) (suc i) x d l a b = let rest = count_set S ys i x d (omega arith) a b in omega (arith, rest)
-
--- where one has another mark, not all have this one
-pub count_all : (S : ℕ → Bool) (xs : List ℕ) → count S xs ≤ length xs
-count_all S [] = omega arith
-count_all S (x ∷ xs) = go (S x) (count_all S xs)
+-- those that pass are counted
+pub length-those : (S : ℕ → Bool) (ts : List ℕ) → length (filter S ts) ≡ count S ts
+length-those S [] = refl
+length-those S (t ∷ ts) = go (S t) (length-those S ts)
   where
-    go : (b : Bool) → count S xs ≤ length xs → cond b 1 0 + count S xs ≤ suc (length xs)
-    go true l = omega arith
-    go false l = omega arith
-
-pub count_but : (S : ℕ → Bool) (xs : List ℕ) (i d : ℕ) → i < length xs → S (get_or xs i d) ≡ false → count S xs < length xs
-count_but S [] i d l a = absurd (omega arith)
-count_but S (y ∷ ys) zero d l a = let all = count_all S ys in rw a (omega arith)
-count_but S (y ∷ ys) (suc i) d l a = go (S y) (count_but S ys i d (omega arith) a)
-  where
-    go : (b : Bool) → count S ys < length ys → cond b 1 0 + count S ys < suc (length ys)
-    go true l = omega arith
-    go false l = omega arith
+    go : (b : Bool) → length (filter S ts) ≡ count S ts → length (cond b (t ∷ filter S ts) (filter S ts)) ≡ cond b 1 0 + count S ts
+    go true e = omega arith
+    go false e = omega arith
 
 among_push : (u x : ℕ) (xs : List ℕ) → among u (xs ++ x ∷ []) ≡ (among u xs || eqb x u)
 among_push u x [] = grind (arith, nat_tests)
@@ -99,9 +86,12 @@ done_same marks queue i v l m = elim (cases_eq v i) [
     there : (v ≡ i → ⊥) → done (set marks i loose) (queue ++ i ∷ []) v ≡ done marks queue v
     there d = let a = among_push v i queue in let q = ne_eqb i v (λ e. d (sym e)) in let b = marked_set marks i v l d in rw (b, a) (let k = q in grind (arith, nat_tests))
 
--- one mark more
-one_more : (w : Work) (i : ℕ) → Marks w → CanBeMarked w i → count (λ n. eqb n loose) (set w.marks i loose) ≡ count (λ n. eqb n loose) w.marks + 1
-one_more w i b m = count_set (λ n. eqb n loose) w.marks i loose held (omega (arith, b.len, m.is_job)) m.unmarked refl
+-- one mark more, where there was another
+one_more : (w : Work) (i : ℕ) → Marks w → CanBeMarked w i → loose_count (set w.marks i loose) ≡ loose_count w.marks + 1
+one_more w i b m = omega (arith, rw m.unmarked at (sum_by-set {X = ℕ} (λ n. cond (eqb n loose) 1 0) w.marks i loose held (omega (arith, b.len, m.is_job))))
+
+not_all : (w : Work) (i : ℕ) → Marks w → CanBeMarked w i → loose_count w.marks < length w.marks
+not_all w i b m = omega (arith, one_more w i b m, count_by-le-length (λ n. eqb n loose) (set w.marks i loose), length-set w.marks i loose)
 
 -- one job more is marked and queued, which every closed set holds
 pub mark_base : (w : Work) (i : ℕ) → Marks w → CanBeMarked w i → Marks (with_mark w i)
@@ -123,15 +113,11 @@ mark_base w i b m =
 
 -- there is room in the queue for a job that is not marked
 pub queue_room_left : (w : Work) (i : ℕ) → Marks w → CanBeMarked w i → length w.queue < jobs_max
-queue_room_left w i b m =
-    let k : i < length w.marks = omega (arith, b.len, m.is_job) in
-    omega (arith, b.few, b.size, count_but (λ n. eqb n loose) w.marks i held k m.unmarked)
+queue_room_left w i b m = omega (arith, b.few, b.size, not_all w i b m)
 
 -- what is queued more can be marked less
 pub mark_steps : (w : Work) (i : ℕ) → Marks w → CanBeMarked w i → steps_left (with_mark w i) ≡ steps_left w
-mark_steps w i b m =
-    let k : i < length w.marks = omega (arith, b.len, m.is_job) in
-    omega (arith, length_push w.queue i, length-set w.marks i loose, one_more w i b m, count_but (λ n. eqb n loose) w.marks i held k m.unmarked)
+mark_steps w i b m = omega (arith, length_push w.queue i, length-set w.marks i loose, one_more w i b m, not_all w i b m)
 
 pub mark_settled : (w : Work) (i from to : ℕ) (rest : List ℕ) → i < length w.marks → marked w.marks i ≡ false → ((v : ℕ) → done (set w.marks i loose) rest v ≡ done w.marks w.queue v) → SettledIn from to w → SettledIn from to (record { rows = w.rows; marks = set w.marks i loose; queue = rest })
 mark_settled w i from to rest l m same s v a b u =

@@ -1,5 +1,5 @@
 -- How far a reduction has come: what its steps keep.
-use Rattle.std.specs.Prelude.{◌≡◌, ℕ, ◌+◌, ◌-◌, ◌<◌, ◌≤◌, Bool, true, false, not, ◌&&◌, ◌⊎◌, ◌↔◌, List, [], ◌∷◌, ◌++◌, length, ◌==◌, nat_eq, nat_le, slice_index, slice_index_or, slice_set}
+use Rattle.std.specs.Prelude.{◌≡◌, ℕ, ◌+◌, ◌-◌, ◌<◌, ◌≤◌, Bool, true, false, not, ◌&&◌, ◌⊎◌, ◌↔◌, List, [], ◌∷◌, ◌++◌, length, count_by, ◌==◌, nat_eq, nat_le, slice_index, slice_index_or, slice_set}
 use Rattle.rows.specs.Waiting.{Waiting, at, among}
 use Rattle.tables.specs.Closed.{count, Loosened}
 use Rattle.tables.specs.Tables.{jobs_max}
@@ -13,7 +13,7 @@ pub record Work : Type 0 where
 
 -- How many jobs are marked.
 abbrev pub loose_count : List ℕ → ℕ
-loose_count marks = count (λ m. nat_eq m loose) marks
+loose_count marks = count_by (λ m. nat_eq m loose) marks
 
 -- How many jobs can still be taken from the queue: those in it, and those that can still be marked.
 abbrev pub steps_left : Work → ℕ

@@ -83,8 +83,8 @@ impl<'a, 'q, T: Table> Marking<'a, 'q, T> {
     fn loose_targets(&self, job: usize) -> usize
         ensures { result ≡ count (marked self.now.marks) (at self.now.rows job).targets }
     {
-        (0..self.table.target_count(job))
-            .filter_map(|place| self.table.target(job, place))
+        self.table
+            .targets(job)
             .filter(|target| self.is_loose(*target))
             .count()
     }
