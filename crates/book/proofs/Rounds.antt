@@ -3,20 +3,20 @@ use Rattle.std.proofs.Common.{◌≡◌, ℕ, ◌+◌, Bool, true, false, cond, 
 use Rattle.std.proofs.lemmas.List.{set-set, set-get_or}
 use Rattle.std.proofs.lemmas.Bool.{eq-eqb, lt-ltb}
 use Rattle.rows.specs.Waiting.{Waiting}
-use Rattle.groups.specs.declared.store.Ticket.{Ticket}
 use Rattle.groups.specs.State.{State, face, innermost, noted, merged, old_row, opened, kept, cancelled}
 use Rattle.groups.proofs.Stepped.{same_state}
 use Rattle.book.specs.declared.fault.BookFault.TheVariants.{TooDeep}
 use Rattle.book.specs.Calls.{Edit, edits, opens, keeps, cancels, job_of, next_row, changed}
+use Rattle.book.specs.History.{Called}
 use Rattle.book.specs.Answers.{Answer, done, ticket, returned, stop, accepted, says, after}
 
 -- what an opening that gives a ticket says of it, and does
-pub ticket_given : (s : State Waiting) (t : Ticket) → ticket t.mark t.depth ≡ says s opens → (t.mark ≡ s.mark) × (t.depth ≡ (face s).depth + 1) × (after s opens ≡ opened s)
-ticket_given s t e = go (ltb (face s).depth 8) e
+ticket_given : (s : State Waiting) (m d : ℕ) → ticket m d ≡ says s opens → (m ≡ s.mark) × (d ≡ (face s).depth + 1) × (after s opens ≡ opened s)
+ticket_given s m d e = go (ltb (face s).depth 8) e
   where
-    go : (q : Bool) → ticket t.mark t.depth ≡ cond q (ticket s.mark ((face s).depth + 1)) (stop TooDeep) → (t.mark ≡ s.mark) × (t.depth ≡ (face s).depth + 1) × (cond (accepted (cond q (ticket s.mark ((face s).depth + 1)) (stop TooDeep))) (opened s) s ≡ opened s)
+    go : (q : Bool) → ticket m d ≡ cond q (ticket s.mark ((face s).depth + 1)) (stop TooDeep) → (m ≡ s.mark) × (d ≡ (face s).depth + 1) × (cond (accepted (cond q (ticket s.mark ((face s).depth + 1)) (stop TooDeep))) (opened s) s ≡ opened s)
     go true h = (cc, cc, refl)
-    go false h = let z : ◌≡◌ {A = ℕ} 0 1 = cc in absurd (omega arith)
+    go false h = absurd (cc h)
 
 -- an edit opens and ends no group
 edited_depth : (s : State Waiting) (e : Edit) → (face (after (opened s) (edits e))).depth ≡ (face s).depth + 1
@@ -41,13 +41,13 @@ fits_still s e m d p q =
     let c : ltb 0 d ≡ true = lt-ltb _ _ (omega (arith, q)) in
     rw (a, b, c)
 
-pub keep_told : (s : State Waiting) (e : Edit) (m d : ℕ) → m ≡ s.mark → d ≡ (face s).depth + 1 → says (after (opened s) (edits e)) (keeps m d) ≡ done
+keep_told : (s : State Waiting) (e : Edit) (m d : ℕ) → m ≡ s.mark → d ≡ (face s).depth + 1 → says (after (opened s) (edits e)) (keeps m d) ≡ done
 keep_told s e m d p q = rw (fits_still s e m d p q)
 
-pub cancel_told : (s : State Waiting) (e : Edit) (m d : ℕ) → m ≡ s.mark → d ≡ (face s).depth + 1 → says (after (opened s) (edits e)) (cancels m d) ≡ done
+cancel_told : (s : State Waiting) (e : Edit) (m d : ℕ) → m ≡ s.mark → d ≡ (face s).depth + 1 → says (after (opened s) (edits e)) (cancels m d) ≡ done
 cancel_told s e m d p q = rw (fits_still s e m d p q)
 
-pub cancelled_round : (s : State Waiting) (e : Edit) (m d : ℕ) → m ≡ s.mark → d ≡ (face s).depth + 1 → after (after (opened s) (edits e)) (cancels m d) ≡ s
+cancelled_round : (s : State Waiting) (e : Edit) (m d : ℕ) → m ≡ s.mark → d ≡ (face s).depth + 1 → after (after (opened s) (edits e)) (cancels m d) ≡ s
 cancelled_round s e m d p q = rw (fits_still s e m d p q) (go (accepted (says (opened s) (edits e))))
   where
     go : (r : Bool) → cancelled (cond r (changed (opened s) (edits e)) (opened s)) ≡ s
@@ -62,7 +62,7 @@ noted_groups : {X : Type 0} (gs : List (List X)) (x : X) → merged ((x ∷ []) 
 noted_groups [] x = refl
 noted_groups (g ∷ gs) x = refl
 
-pub kept_round : (s : State Waiting) (e : Edit) (m d : ℕ) → m ≡ s.mark → d ≡ (face s).depth + 1 → after (after (opened s) (edits e)) (keeps m d) ≡ cond (accepted (says (opened s) (edits e))) (changed s (edits e)) s
+kept_round : (s : State Waiting) (e : Edit) (m d : ℕ) → m ≡ s.mark → d ≡ (face s).depth + 1 → after (after (opened s) (edits e)) (keeps m d) ≡ cond (accepted (says (opened s) (edits e))) (changed s (edits e)) s
 kept_round s e m d p q = rw (fits_still s e m d p q) (go (accepted (says (opened s) (edits e))))
   where
     go : (r : Bool) → kept (cond r (changed (opened s) (edits e)) (opened s)) ≡ cond r (changed s (edits e)) s
@@ -71,33 +71,26 @@ kept_round s e m d p q = rw (fits_still s e m d p q) (go (accepted (says (opened
 
 -- ---- from the promises of the calls: an opening that gives a ticket, and an edit
 
-module _ (s s₁ s₂ : State Waiting) (t : Ticket) (e : Edit) (given : ticket t.mark t.depth ≡ says s opens) (first : s₁ ≡ after s opens) (second : s₂ ≡ after s₁ (edits e)) where
+module _ {s s₁ s₂ : State Waiting} {m d : ℕ} {e : Edit} {a : Answer} (first : Called s opens (ticket m d) s₁) (second : Called s₁ (edits e) a s₂) where
+  given : (m ≡ s.mark) × (d ≡ (face s).depth + 1) × (after s opens ≡ opened s)
+  given = ticket_given s m d first.value
+
   edited : s₂ ≡ after (opened s) (edits e)
-  edited = second ∙ ap (λ v. after v (edits e)) (first ∙ (ticket_given s t given).2)
+  edited = second.after ∙ ap (λ v. after v (edits e)) (first.after ∙ given.2)
 
-  fits_mark : t.mark ≡ s.mark
-  fits_mark = (ticket_given s t given).0
+  pub cancel_leaves : {b : Answer} {s₃ : State Waiting} → Called s₂ (cancels m d) b s₃ → s₃ ≡ s
+  cancel_leaves third = third.after ∙ ap (λ v. after v (cancels m d)) edited ∙ cancelled_round s e m d given.0 given.1
 
-  fits_depth : t.depth ≡ (face s).depth + 1
-  fits_depth = (ticket_given s t given).1
-
-  pub cancel_leaves : (s₃ : State Waiting) → s₃ ≡ after s₂ (cancels t.mark t.depth) → s₃ ≡ s
-  cancel_leaves s₃ third = third ∙ ap (λ v. after v (cancels t.mark t.depth)) edited ∙ cancelled_round s e t.mark t.depth fits_mark fits_depth
-
-  pub keep_leaves : (s₃ : State Waiting) (a : Answer) → a ≡ says s₁ (edits e) → s₃ ≡ after s₂ (keeps t.mark t.depth) → s₃ ≡ cond (accepted a) (changed s (edits e)) s
-  keep_leaves s₃ a told third =
-      third
-      ∙ ap (λ v. after v (keeps t.mark t.depth)) edited
-      ∙ kept_round s e t.mark t.depth fits_mark fits_depth
-      ∙ ap (λ v. cond (accepted v) (changed s (edits e)) s) (sym (told ∙ ap (λ v. says v (edits e)) (first ∙ (ticket_given s t given).2)))
+  pub keep_leaves : {b : Answer} {s₃ : State Waiting} → Called s₂ (keeps m d) b s₃ → s₃ ≡ cond (accepted a) (changed s (edits e)) s
+  keep_leaves third =
+      third.after
+      ∙ ap (λ v. after v (keeps m d)) edited
+      ∙ kept_round s e m d given.0 given.1
+      ∙ ap (λ v. cond (accepted v) (changed s (edits e)) s) (sym (second.value ∙ ap (λ v. says v (edits e)) (first.after ∙ given.2)))
 
   -- the ticket is not refused
-  pub cancel_taken : (n m d : ℕ) → returned n m d ≡ says s₂ (cancels t.mark t.depth) → ⊥
-  cancel_taken n m d h =
-      let f : returned n m d ≡ done = h ∙ ap (λ v. says v (cancels t.mark t.depth)) edited ∙ cancel_told s e t.mark t.depth fits_mark fits_depth in
-      let z : ◌≡◌ {A = ℕ} 0 1 = cc in omega arith
+  pub cancel_taken : {n i j : ℕ} {s₃ : State Waiting} → Called s₂ (cancels m d) (returned n i j) s₃ → ⊥
+  cancel_taken third = cc (third.value ∙ ap (λ v. says v (cancels m d)) edited ∙ cancel_told s e m d given.0 given.1)
 
-  pub keep_taken : (n m d : ℕ) → returned n m d ≡ says s₂ (keeps t.mark t.depth) → ⊥
-  keep_taken n m d h =
-      let f : returned n m d ≡ done = h ∙ ap (λ v. says v (keeps t.mark t.depth)) edited ∙ keep_told s e t.mark t.depth fits_mark fits_depth in
-      let z : ◌≡◌ {A = ℕ} 0 1 = cc in omega arith
+  pub keep_taken : {n i j : ℕ} {s₃ : State Waiting} → Called s₂ (keeps m d) (returned n i j) s₃ → ⊥
+  keep_taken third = cc (third.value ∙ ap (λ v. says v (keeps m d)) edited ∙ keep_told s e m d given.0 given.1)

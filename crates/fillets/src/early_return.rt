@@ -1,7 +1,6 @@
 // A fillet that may fail while its group is open.
 ghost use Rattle.std.specs.Prelude.{◌≡◌, true, false, is_ok, if◌then◌else◌};
 ghost use Rattle.book.specs.Calls.{changed};
-ghost use Rattle.book.specs.Views.{book_state};
 ghost use Rattle.fillets.specs.Fillets.{waits_for_faces};
 
 use crate::fillet::{FACES, FilletFault};
@@ -16,7 +15,7 @@ pub fn round_edge(
     thin: bool,
 ) -> Result<(), FilletFault>
     ensures thin { thin ≡ true → is_ok result ≡ false }
-    ensures after { book_state book.new ≡ (if is_ok result then changed (book_state book.old) (waits_for_faces fillet faces.now) else book_state book.old) }
+    ensures after { book.new ≡ (if is_ok result then changed book.old (waits_for_faces fillet faces.now) else book.old) }
 {
     let ticket = book.open()?;
     let asked = book.request(fillet, FACES, faces);

@@ -1,7 +1,6 @@
 // A fillet that is made, and a second one that is only tried.
 ghost use Rattle.std.specs.Prelude.{◌≡◌, true, is_ok};
 ghost use Rattle.book.specs.Calls.{changed};
-ghost use Rattle.book.specs.Views.{book_state};
 ghost use Rattle.fillets.specs.Fillets.{waits_for_faces};
 
 use crate::fillet::{FACES, FilletFault};
@@ -15,7 +14,7 @@ pub fn round_twice(
     second: usize,
     faces: &[u8],
 ) -> Result<(), FilletFault>
-    ensures { is_ok result ≡ true → book_state book.new ≡ changed (book_state book.old) (waits_for_faces first faces.now) }
+    ensures { is_ok result ≡ true → book.new ≡ changed book.old (waits_for_faces first faces.now) }
 {
     let ticket = book.open()?;
     let asked = book.request(first, FACES, faces);
