@@ -1,20 +1,15 @@
 -- A call that answers and changes the book by the rules follows every history that the book shows.
-use Rattle.std.proofs.Common.{◌≡◌, ℕ, Bool, true, false, cond, List, [], ◌∷◌, length, replicate, sym, refl, ap, ◌∙◌, subst}
+use Rattle.std.proofs.Common.{◌≡◌, ℕ, Bool, true, false, cond, List, length, replicate, sym, refl, ap, ◌∙◌, subst}
 use Rattle.std.proofs.lemmas.List.{length-set, length-replicate}
 use Rattle.rows.specs.Waiting.{Waiting, idle}
-use Rattle.groups.specs.State.{State, restored, fresh}
+use Rattle.groups.specs.State.{State, fresh}
 use Rattle.groups.specs.History.{History, begun}
 use Rattle.groups.specs.Shows.{ShowsFrom}
-use Rattle.groups.specs.declared.store.Old.{Old}
 use Rattle.groups.proofs.Shown.{shows_face, write_shows, open_shows, keep_shows, cancel_shows}
-use Rattle.groups.proofs.Viewed.{length-unwound}
+use Rattle.groups.proofs.Viewed.{length-restored}
 use Rattle.book.specs.Calls.{Edit, Call, edits, opens, keeps, cancels, job_of, next_row, changed}
 use Rattle.book.specs.Answers.{Answer, accepted, answer, says, after}
 use Rattle.book.specs.History.{answers, counted, fed, terms, Shows, Follows, Called}
-
-length-restored : (rows : List Waiting) (gs : List (List (Old Waiting))) → length (restored rows gs) ≡ length rows
-length-restored rows [] = refl
-length-restored rows (g ∷ gs) = length-unwound rows g
 
 -- no call changes the number of jobs
 length-changed : (s : State Waiting) (c : Call) → length (changed s c).rows ≡ length s.rows
@@ -38,8 +33,8 @@ after_shows s c h w = go (accepted (says s c)) (accepted (answers (terms s) h c)
     go : (a b : Bool) → a ≡ b → Shows (cond a (changed s c) s) (cond b (counted h c) h)
     go true true e = subst (λ n. ShowsFrom job_of next_row (replicate n idle) (changed s c) (counted h c)) (sym (length-changed s c)) (changed_shows (replicate (length s.rows) idle) s c h w)
     go false false e = w
-    go true false e = let z : ◌≡◌ {A = ℕ} 0 1 = cc in absurd (omega native.Mathlib.Omega.arith)
-    go false true e = let z : ◌≡◌ {A = ℕ} 0 1 = cc in absurd (omega native.Mathlib.Omega.arith)
+    go true false e = absurd (cc e)
+    go false true e = absurd (cc e)
 
 follows : (s : State Waiting) (c : Call) (a : Answer) (s' : State Waiting) → a ≡ says s c → s' ≡ after s c → Follows s c a s'
 follows s c a s' e f h w = (e ∙ says_answers s c h w, subst (λ t. Shows t (fed (terms s) h c)) (sym f) (after_shows s c h w))

@@ -1,16 +1,15 @@
 -- What the book's type carries, kept by every call.
-use Rattle.std.proofs.Common.{◌≡◌, ℕ, ◌<◌, ◌≤◌, Bool, true, false, cond, List, [], ◌∷◌, length, refl, ap, ◌∙◌, arith}
+use Rattle.std.proofs.Common.{◌≡◌, ℕ, ◌<◌, ◌≤◌, Bool, true, false, cond, length, refl, ap, ◌∙◌, arith}
 use Rattle.std.proofs.lemmas.List.{length-set, length-replicate}
 use Rattle.rows.specs.declared.plain.PlainRow.{PlainRow}
 use Rattle.rows.specs.Law.{sound, row_fits}
 use Rattle.rows.specs.Views.{waiting, plain_fits}
 use Rattle.rows.specs.Waiting.{idle}
 use Rattle.rows.proofs.Laws.{idle_fits, sound_fits}
-use Rattle.groups.specs.declared.store.Old.{Old}
-use Rattle.groups.specs.State.{State, restored, fresh, written, opened, kept, cancelled}
+use Rattle.groups.specs.State.{State, fresh, written, kept, cancelled}
 use Rattle.groups.specs.Obeys.{Obeys}
 use Rattle.groups.proofs.Obeyed.{fresh_obeys, written_obeys, kept_obeys, cancelled_obeys}
-use Rattle.groups.proofs.Viewed.{length-unwound}
+use Rattle.groups.proofs.Viewed.{length-restored}
 use Rattle.book.specs.Memory.{Lawful}
 
 -- a call that keeps the number of rows, and the law of them
@@ -19,17 +18,10 @@ lawful_still n s t l e keep =
     let o = keep (l.lawful, l.undoable) in
     record { few = l.few; whole = e ∙ l.whole; lawful = o.0; undoable = o.1 }
 
-length-restored : (rows : List PlainRow) (gs : List (List (Old PlainRow))) → length (restored rows gs) ≡ length rows
-length-restored rows [] = refl
-length-restored rows (g ∷ gs) = length-unwound rows g
-
 module _ (n : ℕ) (s : State PlainRow) (l : Lawful n s) where
   pub written_lawful : (job : ℕ) (row : PlainRow) → job < n → plain_fits n job row ≡ true → Lawful n (written s job row)
   written_lawful job row j fits =
       lawful_still n s (written s job row) l (length-set s.rows job row) (written_obeys (plain_fits n) s job row (omega (arith, l.few, l.whole)) fits)
-
-  pub opened_lawful : Lawful n (opened s)
-  opened_lawful = lawful_still n s (opened s) l refl (λ o. o)
 
   pub kept_lawful : Lawful n (kept s)
   kept_lawful = lawful_still n s (kept s) l refl (kept_obeys (plain_fits n) s)

@@ -1,6 +1,6 @@
 -- The rows that the book shows, read off the rows that it stores.
 use Rattle.std.proofs.Common.{◌≡◌, ℕ, zero, suc, ◌+◌, ◌<◌, ◌≤◌, true, ◌&&◌, List, [], ◌∷◌, map, length, get_or, take, sym, refl, ap, ◌∙◌, Result, Ok, Err, IsOk, subst, arith}
-use Rattle.std.proofs.lemmas.List.{length-map, length-take-le, get_or-map, get_or-take, get_or_past}
+use Rattle.std.proofs.lemmas.List.{length-map, length-take-le, get_or-map, get_or-take}
 use Rattle.std.proofs.lemmas.Bool.{and_from, and_parts}
 use Rattle.rows.specs.declared.plain.PlainRow.{PlainRow}
 use Rattle.rows.specs.Waiting.{Waiting, idle, at}
@@ -22,9 +22,6 @@ length_seen n rows l = length-map (take n rows) waiting ∙ length-take-le n row
 pub at_seen : (n : ℕ) (rows : List PlainRow) (job : ℕ) (d : PlainRow) → n ≤ length rows → job < n → at (map waiting (take n rows)) job ≡ waiting (get_or rows job d)
 at_seen n rows job d l j =
     get_or-map waiting (take n rows) job d idle (omega (arith, length-take-le n rows l)) ∙ ap waiting (get_or-take n rows job d j)
-
-pub at_beyond : (n : ℕ) (rows : List PlainRow) (job : ℕ) → n ≤ length rows → n ≤ job → at (map waiting (take n rows)) job ≡ idle
-at_beyond n rows job l j = get_or_past (map waiting (take n rows)) job idle (omega (arith, length_seen n rows l))
 
 -- a stored row that obeys the law passes the check
 pub sound_at : (n : ℕ) (rows : List PlainRow) (job : ℕ) (row : PlainRow) → ((d : PlainRow) → row ≡ get_or rows job d) → job < length rows → rows_obey (plain_fits n) 0 rows ≡ true → sound row.need row.count row.targets ≡ true

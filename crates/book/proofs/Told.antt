@@ -143,7 +143,7 @@ grant_none : (u : ℕ) (w : Waiting) → None ≡ granted_by u w → among u w.t
 grant_none u w e = go (among u w.targets) e
   where
     go : (q : Bool) → None ≡ cond {A = Option Waiting} q (Some (granted u w)) None → q ≡ false
-    go true h = let z : ◌≡◌ {A = ℕ} 0 1 = cc in absurd (omega arith)
+    go true h = absurd (cc h)
     go false h = refl
 
 grant_some : (u : ℕ) (w v : Waiting) → Some v ≡ granted_by u w → (among u w.targets ≡ true) × (v ≡ granted u w)
@@ -151,16 +151,7 @@ grant_some u w v e = go (among u w.targets) e
   where
     go : (q : Bool) → Some v ≡ cond {A = Option Waiting} q (Some (granted u w)) None → (q ≡ true) × (v ≡ granted u w)
     go true h = (refl, cc)
-    go false h = let z : ◌≡◌ {A = ℕ} 0 1 = cc in absurd (omega arith)
-
--- a flag that is not set
-pub not_true : (q : Bool) → true ≡ not q → q ≡ false
-not_true true e = let z : ◌≡◌ {A = ℕ} 0 1 = cc in absurd (omega arith)
-not_true false e = refl
-
-pub not_false : (q : Bool) → false ≡ not q → q ≡ true
-not_false true e = refl
-not_false false e = let z : ◌≡◌ {A = ℕ} 0 1 = cc in absurd (omega arith)
+    go false h = absurd (cc h)
 
 -- the answer where a row is not made, or else the rest of the checks
 abbrev stop_of : Result Waiting RowFault → Answer → Answer
@@ -173,9 +164,9 @@ made_told false None w rest = refl
 made_told false (Some place) w rest = refl
 
 placed_is : (q : Bool) (p : Option ℕ) (w v : Waiting) → cond {A = Result Waiting RowFault} q (Err RowCounts) (placed p w) ≡ Ok v → w ≡ v
-placed_is true p w v e = let z : ◌≡◌ {A = ℕ} 0 1 = cc in absurd (omega arith)
+placed_is true p w v e = absurd (cc e)
 placed_is false None w v e = cc
-placed_is false (Some place) w v e = let z : ◌≡◌ {A = ℕ} 0 1 = cc in absurd (omega arith)
+placed_is false (Some place) w v e = absurd (cc e)
 
 module _ (s : State Waiting) (n : ℕ) (jobs : n ≡ length s.rows) where
   -- whether all that is left to ask is the trail

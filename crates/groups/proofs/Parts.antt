@@ -1,6 +1,6 @@
 -- The trail cut at the groups' starts, before and after each call.
 use Rattle.std.proofs.Common.{◌≡◌, ℕ, suc, ◌<◌, ◌≤◌, true, Option, Some, None, IsSome, List, [], ◌∷◌, ◌++◌, length, reverse, take, drop, sym, refl, ap, ◌∙◌, arith}
-use Rattle.std.proofs.lemmas.List.{drop-append-le, take-append-le, take-append-drop, take-take, drop_all, take_all, length-take-le, length-drop, length_push, length-append, length-reverse, reverse-append}
+use Rattle.std.proofs.lemmas.List.{drop-append-le, take-append-le, take-append-drop, take-take, length-take-le, length-drop, length_push, length-append, length-reverse, reverse-append}
 use Rattle.std.specs.Option.{option_to_list, unwrap_or}
 use Rattle.std.proofs.lemmas.Bool.Decides.{nat_tests}
 use Rattle.groups.specs.declared.store.Old.{Old}
@@ -49,11 +49,6 @@ module _ {X : Type 0} where
   parts_outside xs [] x l = refl
   parts_outside xs (s ∷ ss) x l = absurd (omega arith)
 
-  parts_opened : (xs : List X) (ss : List ℕ) → tidy (length xs) ss ≡ true → (tidy (length xs) (length xs ∷ ss) ≡ true) × (parts xs (length xs ∷ ss) ≡ [] ∷ parts xs ss)
-  parts_opened xs ss t =
-      let n : length xs ≤ length xs = omega arith in
-      (grind (arith, nat_tests), ap (λ ys. ys ∷ parts (take (length xs) xs) ss) (drop_all (length xs) xs n) ∙ ap (λ ys. [] ∷ parts ys ss) (take_all (length xs) xs n))
-
   drop_split : (xs : List X) (t s : ℕ) → t ≤ s → s ≤ length xs → drop t xs ≡ drop t (take s xs) ++ drop s xs
   drop_split xs t s l m =
       let n : t ≤ length (take s xs) = omega (arith, length-take-le s xs m) in
@@ -73,11 +68,6 @@ module _ {X : Type 0} where
 
   pub used_of : (xs : List X) (starts : List ℕ) → tidy (length xs) (reverse starts) ≡ true → total (parts xs (reverse starts)) ≡ length xs
   used_of xs starts t = total_parts xs (reverse starts) t
-
-  pub opened_parts : (xs : List X) (before after : List ℕ) → after ≡ before ++ length xs ∷ [] → tidy (length xs) (reverse before) ≡ true → (tidy (length xs) (reverse after) ≡ true) × (parts xs (reverse after) ≡ [] ∷ parts xs (reverse before))
-  opened_parts xs before after e t =
-      let r : reverse after ≡ length xs ∷ reverse before = ap reverse e ∙ reverse-append before (length xs ∷ []) in
-      rw r (parts_opened xs (reverse before) t)
 
   pub noted_parts : (xs : List X) (starts : List ℕ) (x : X) → 0 < length starts → tidy (length xs) (reverse starts) ≡ true → (tidy (length (xs ++ x ∷ [])) (reverse starts) ≡ true) × (parts (xs ++ x ∷ []) (reverse starts) ≡ noted (parts xs (reverse starts)) x)
   noted_parts xs starts x l t =

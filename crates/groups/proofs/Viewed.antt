@@ -9,9 +9,13 @@ use Rattle.groups.specs.State.{State, face, total, old_row, noted, merged, unwou
 use Rattle.groups.specs.Views.{old_view, view}
 use Rattle.groups.proofs.Stepped.{same_state}
 
-pub length-unwound : {P : Type 0} (rows : List P) (os : List (Old P)) → length (unwound rows os) ≡ length rows
+length-unwound : {P : Type 0} (rows : List P) (os : List (Old P)) → length (unwound rows os) ≡ length rows
 length-unwound rows [] = refl
 length-unwound rows (o ∷ os) = length-set (unwound rows os) o.job o.row ∙ length-unwound rows os
+
+pub length-restored : {P : Type 0} (rows : List P) (gs : List (List (Old P))) → length (restored rows gs) ≡ length rows
+length-restored rows [] = refl
+length-restored rows (g ∷ gs) = length-unwound rows g
 
 module _ {P Q : Type 0} (f : P → Q) where
   map_replicate : (n : ℕ) (x : P) → map f (replicate n x) ≡ replicate n (f x)

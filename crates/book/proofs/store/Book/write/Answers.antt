@@ -1,15 +1,16 @@
-use Rattle.std.proofs.Common.{refl, ap, ◌∙◌}
+use Rattle.std.proofs.Common.{sym, refl, ap, ◌∙◌}
+use Rattle.std.proofs.lemmas.Bool.{not-true, not-false}
 use Rattle.rows.specs.Views.{waiting}
 use Rattle.groups.specs.Views.{view}
 use Rattle.book.specs.declared.fault.BookFault.TheVariants.{TrailFull}
-use Rattle.book.proofs.Told.{full_seen, not_true, not_false, carried_fault, write_lawful, write_seen}
+use Rattle.book.proofs.Told.{full_seen, carried_fault, write_lawful, write_seen}
 use Rattle.book.proofs.store.Book.write.Goals as goal
 
 pub returns-in_err-write : goal.returns-in_err-write
 returns-in_err-write c =
     let b = c.self.inside in
     let e = c.in_err-write.ensures in
-    rw (← c.self.view_is, full_seen b.jobs b.groups, not_false _ e.value) (record {
+    rw (← c.self.view_is, full_seen b.jobs b.groups, not-false _ (sym e.value)) (record {
       value = carried_fault c.from_residual.result TrailFull c.from_residual.ensures.1;
       after = ap (view b.jobs waiting) e.after;
     })
@@ -23,7 +24,7 @@ pub returns : goal.returns
 returns c =
     let b = c.self.inside in
     let e = c.in_ok-write.ensures in
-    rw (← c.self.view_is, full_seen b.jobs b.groups, not_true _ e.value) (record {
+    rw (← c.self.view_is, full_seen b.jobs b.groups, not-true _ (sym e.value)) (record {
       value = refl;
       after = ap (view b.jobs waiting) e.after ∙ write_seen b.jobs b.groups c.self.invariant c.args.job c.args.row c.into.result c.into.ensures (rw (← c.self.view_is) at c.requires.job);
     })
