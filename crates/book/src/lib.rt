@@ -10,4 +10,4 @@ pub use groups::{DEPTH_MAX, Old, TRAIL_MAX, Ticket};
 pub use rows::{PlainRow, TARGETS_MAX};
 pub use script::{FinishedScript, ScriptFault, StoppedScript};
 pub use store::Book;
-pub use tables::JOBS_MAX;
+pub use tables::{JOBS_MAX, Table, TwoWayTable};

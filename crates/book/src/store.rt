@@ -1,7 +1,6 @@
 // The book's data, with its law.
 mod calls;
 mod questions;
-mod reads;
 
 use groups::Groups;
 use rows::PlainRow;

@@ -1,5 +1,5 @@
 // What the tests share: calls told by the number of their refusal, which is 0 where they are accepted.
-use book::{Book, BookFault, RefusedEnding, Ticket};
+use book::{Book, BookFault, RefusedEnding, Table, Ticket};
 use std::test::Fail;
 
 // The number of a refusal.

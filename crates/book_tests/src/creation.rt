@@ -1,6 +1,6 @@
 // How many jobs a new book has.
 use crate::common::*;
-use book::{Book, Old, PlainRow};
+use book::{Book, Old, PlainRow, Table};
 
 #[test]
 fn has_the_jobs_asked_for(rt: HostRuntime) {

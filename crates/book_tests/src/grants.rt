@@ -1,6 +1,6 @@
 // Grants: what they leave, and the refusals in their order.
 use crate::common::*;
-use book::{Book, Old, PlainRow};
+use book::{Book, Old, PlainRow, Table};
 use std::test::Fail;
 
 // A grant takes its wait away, and the one that meets the last need takes the others away with it.

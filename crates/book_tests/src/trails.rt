@@ -1,6 +1,6 @@
 // How many edits the groups hold.
 use crate::common::*;
-use book::{Book, Old, PlainRow};
+use book::{Book, Old, PlainRow, Table};
 use std::test::Fail;
 
 // An edit of job 0: it waits for job 1, or no longer waits.

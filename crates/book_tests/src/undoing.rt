@@ -1,6 +1,6 @@
 // What kept and cancelled groups leave.
 use crate::common::*;
-use book::{Book, Old, PlainRow};
+use book::{Book, Old, PlainRow, Table};
 use std::test::Fail;
 
 // Every row of the group's opening is back, one that was written three times too.

@@ -17,7 +17,7 @@ use crate::fault::{BookFault, RefusedEnding};
 use crate::store::Book;
 use groups::{Groups, Old, Ticket};
 use rows::{PlainRow, Row};
-use tables::JOBS_MAX;
+use tables::{JOBS_MAX, Table};
 
 // How many jobs a book is created with: none where more are asked for than there can be.
 fn created(jobs: usize) -> usize
