@@ -1,17 +1,22 @@
 // What a fillet waits for, and why one is not made.
+ghost use Rattle.std.specs.Prelude.{◌≡◌};
+ghost use Rattle.fillets.specs.declared.fillet.FilletFault.TheVariants.{InBook};
+
 use book::{BookFault, RefusedEnding};
 
 // A fillet waits for both faces at its edge.
 pub const FACES: u8 = 2;
 
 // The edge is too thin for it, or the book refuses a call.
-#[derive(Clone, Copy)]
+#[derive(Clone, Copy, PartialEq, Eq, Debug)]
 pub enum FilletFault {
     TooThin,
     InBook(BookFault),
 }
 
 impl From<BookFault> for FilletFault {
+    ghost from_gives = { λ x y. y ≡ InBook x };
+
     fn from(fault: BookFault) -> FilletFault {
         FilletFault::InBook(fault)
     }
@@ -19,6 +24,8 @@ impl From<BookFault> for FilletFault {
 
 // A ticket that the book refuses is given up; its fault goes on.
 impl From<RefusedEnding> for FilletFault {
+    ghost from_gives = { λ x y. y ≡ InBook x.fault };
+
     fn from(refused: RefusedEnding) -> FilletFault {
         FilletFault::InBook(refused.give_up())
     }
