@@ -7,9 +7,9 @@ mod show;
 mod trouble;
 
 use crate::edits::{ask, grant};
-use crate::names::*;
+use crate::names::{JOBS, Job};
 use crate::trouble::Trouble;
-use book::{Book, Old, PlainRow};
+use book::{Book, Old, PlainRow, RefusedEnding, Ticket};
 
 // The mark of this book's tickets.
 const MARK: u16 = 7;
@@ -19,21 +19,52 @@ const TRAIL: usize = 64;
 
 // The morning's edits: a fillet, a preview and a sheet, each waiting for what it is made of.
 fn morning(rt: &HostRuntime, book: &mut Book) -> Result<(), Trouble> {
-    ask(rt, book, FILLET, 2, &[LEFT_FACE, RIGHT_FACE])?;
-    ask(rt, book, PREVIEW, 1, &[BODY_MESH, DOOR_MESH, DRAWER_MESH])?;
+    ask(rt, book, Job::Fillet, 2, [Job::LeftFace, Job::RightFace])?;
     ask(
         rt,
         book,
-        SHEET,
+        Job::Preview,
+        1,
+        [Job::BodyMesh, Job::DoorMesh, Job::DrawerMesh],
+    )?;
+    ask(
+        rt,
+        book,
+        Job::Sheet,
         2,
-        &[FRONT_VIEW, SIDE_VIEW, TOP_VIEW, SECTION_VIEW],
+        [
+            Job::FrontView,
+            Job::SideView,
+            Job::TopView,
+            Job::SectionView,
+        ],
     )
+}
+
+// Works in a group of its own, and ends the group whatever comes of the work.
+fn in_group<'m, W, E>(rt: &HostRuntime, book: &mut Book<'m>, work: W, end: E) -> Result<(), Trouble>
+where
+    W: FnOnce(&HostRuntime, &mut Book<'m>) -> Result<(), Trouble>,
+    E: FnOnce(&mut Book<'m>, Ticket) -> Result<(), RefusedEnding>,
+    requires work { W.IsAlwaysCallable work }
+    requires end { E.IsAlwaysCallable end }
+{
+    let ticket = book.open()?;
+    let worked = work(rt, book);
+    end(book, ticket)?;
+    worked
 }
 
 // A fillet on a drawer edge, and the section view that would show it.
 fn drawer_edge(rt: &HostRuntime, book: &mut Book) -> Result<(), Trouble> {
-    ask(rt, book, DRAWER_FILLET, 2, &[DRAWER_FRONT, DRAWER_SIDE])?;
-    ask(rt, book, SECTION_VIEW, 1, &[DRAWER_FILLET])?;
+    ask(
+        rt,
+        book,
+        Job::DrawerFillet,
+        2,
+        [Job::DrawerFront, Job::DrawerSide],
+    )?;
+    ask(rt, book, Job::SectionView, 1, [Job::DrawerFillet])?;
     println!(rt; "the drawer edge is too thin: its fillet fails")?;
     Ok(())
 }
@@ -42,10 +73,7 @@ fn drawer_edge(rt: &HostRuntime, book: &mut Book) -> Result<(), Trouble> {
 fn failing_group(rt: &HostRuntime, book: &mut Book) -> Result<(), Trouble> {
     println!(rt; "a group is opened for the drawer edge; waiting before it:")?;
     show::waiting(rt, book)?;
-    let ticket = book.open()?;
-    let worked = drawer_edge(rt, book);
-    book.cancel(ticket)?;
-    worked?;
+    in_group(rt, book, drawer_edge, Book::cancel)?;
     println!(rt; "the group is cancelled; waiting after it:")?;
     show::waiting(rt, book)?;
     Ok(())
@@ -54,18 +82,20 @@ fn failing_group(rt: &HostRuntime, book: &mut Book) -> Result<(), Trouble> {
 // A later edit, kept in a group of its own.
 fn later_group(rt: &HostRuntime, book: &mut Book) -> Result<(), Trouble> {
     println!(rt; "a group is opened for the handle")?;
-    let ticket = book.open()?;
-    let worked = ask(rt, book, HANDLE, 1, &[DOOR_MESH, DRAWER_FRONT]);
-    book.keep(ticket)?;
-    worked?;
+    in_group(
+        rt,
+        book,
+        |rt, book| ask(rt, book, Job::Handle, 1, [Job::DoorMesh, Job::DrawerFront]),
+        Book::keep,
+    )?;
     println!(rt; "the group is kept")?;
     Ok(())
 }
 
 // A careless edit: two views that wait for each other.
 fn views_in_a_circle(rt: &HostRuntime, book: &mut Book) -> Result<(), Trouble> {
-    ask(rt, book, TOP_VIEW, 1, &[SECTION_VIEW])?;
-    ask(rt, book, SECTION_VIEW, 1, &[TOP_VIEW])?;
+    ask(rt, book, Job::TopView, 1, [Job::SectionView])?;
+    ask(rt, book, Job::SectionView, 1, [Job::TopView])?;
     println!(rt; "what waits inside the group:")?;
     show::waiting(rt, book)
 }
@@ -73,21 +103,18 @@ fn views_in_a_circle(rt: &HostRuntime, book: &mut Book) -> Result<(), Trouble> {
 // The careless edit in a group of its own, which is cancelled when the reduction finds jobs stuck.
 fn careless_group(rt: &HostRuntime, book: &mut Book) -> Result<(), Trouble> {
     println!(rt; "a group is opened for two views")?;
-    let ticket = book.open()?;
-    let worked = views_in_a_circle(rt, book);
-    book.cancel(ticket)?;
-    worked?;
+    in_group(rt, book, views_in_a_circle, Book::cancel)?;
     println!(rt; "the group is cancelled: the views would never be done")?;
     Ok(())
 }
 
 // Faces, meshes and views are done one after the other.
 fn afternoon(rt: &HostRuntime, book: &mut Book) -> Result<(), Trouble> {
-    grant(rt, book, LEFT_FACE, FILLET)?;
-    grant(rt, book, RIGHT_FACE, FILLET)?;
-    grant(rt, book, BODY_MESH, PREVIEW)?;
-    grant(rt, book, SECTION_VIEW, SHEET)?;
-    grant(rt, book, FRONT_VIEW, SHEET)
+    grant(rt, book, Job::LeftFace, Job::Fillet)?;
+    grant(rt, book, Job::RightFace, Job::Fillet)?;
+    grant(rt, book, Job::BodyMesh, Job::Preview)?;
+    grant(rt, book, Job::SectionView, Job::Sheet)?;
+    grant(rt, book, Job::FrontView, Job::Sheet)
 }
 
 // The day inside the designer's own group.
@@ -106,10 +133,7 @@ fn main(rt: HostRuntime) -> Result<(), Trouble> {
     }; TRAIL];
     let mut book = Book::new(JOBS, MARK, &mut memory);
     println!(rt; "a day of regeneration: {JOBS} jobs, all active")?;
-    let ticket = book.open()?;
-    let worked = day(&rt, &mut book);
-    book.keep(ticket)?;
-    worked?;
+    in_group(&rt, &mut book, day, Book::keep)?;
     println!(rt; "the day is kept; left waiting:")?;
     show::waiting(&rt, &book)?;
     Ok(())

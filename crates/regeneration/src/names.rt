@@ -1,63 +1,76 @@
 // The jobs of the day, by the names that a designer knows.
 
-pub const LEFT_FACE: u8 = 0;
-
-pub const RIGHT_FACE: u8 = 1;
-
-pub const FILLET: u8 = 2;
-
-pub const BODY_MESH: u8 = 3;
-
-pub const DOOR_MESH: u8 = 4;
-
-pub const DRAWER_MESH: u8 = 5;
-
-pub const PREVIEW: u8 = 6;
-
-pub const FRONT_VIEW: u8 = 7;
-
-pub const SIDE_VIEW: u8 = 8;
-
-pub const TOP_VIEW: u8 = 9;
-
-pub const SECTION_VIEW: u8 = 10;
-
-pub const SHEET: u8 = 11;
-
-pub const DRAWER_FRONT: u8 = 12;
-
-pub const DRAWER_SIDE: u8 = 13;
-
-pub const DRAWER_FILLET: u8 = 14;
-
-pub const HANDLE: u8 = 15;
-
 // How many jobs there are.
 pub const JOBS: usize = 16;
 
-const NAMES: [&str; JOBS] = [
-    "left face",
-    "right face",
-    "fillet",
-    "body mesh",
-    "door mesh",
-    "drawer mesh",
-    "preview",
-    "front view",
-    "side view",
-    "top view",
-    "section view",
-    "sheet",
-    "drawer front",
-    "drawer side",
-    "drawer fillet",
-    "handle",
-];
+// A job's number in the book is its place here.
+#[derive(Clone, Copy)]
+pub enum Job {
+    LeftFace,
+    RightFace,
+    Fillet,
+    BodyMesh,
+    DoorMesh,
+    DrawerMesh,
+    Preview,
+    FrontView,
+    SideView,
+    TopView,
+    SectionView,
+    Sheet,
+    DrawerFront,
+    DrawerSide,
+    DrawerFillet,
+    Handle,
+}
 
-// The name of a job.
-pub fn name_of(job: u8) -> &'static str {
-    match NAMES.get(job as usize) {
-        Some(name) => *name,
+impl Job {
+    // All of them, by number.
+    pub const ALL: [Job; JOBS] = [
+        Job::LeftFace,
+        Job::RightFace,
+        Job::Fillet,
+        Job::BodyMesh,
+        Job::DoorMesh,
+        Job::DrawerMesh,
+        Job::Preview,
+        Job::FrontView,
+        Job::SideView,
+        Job::TopView,
+        Job::SectionView,
+        Job::Sheet,
+        Job::DrawerFront,
+        Job::DrawerSide,
+        Job::DrawerFillet,
+        Job::Handle,
+    ];
+
+    pub fn name(self) -> &'static str {
+        match self {
+            Job::LeftFace => "left face",
+            Job::RightFace => "right face",
+            Job::Fillet => "fillet",
+            Job::BodyMesh => "body mesh",
+            Job::DoorMesh => "door mesh",
+            Job::DrawerMesh => "drawer mesh",
+            Job::Preview => "preview",
+            Job::FrontView => "front view",
+            Job::SideView => "side view",
+            Job::TopView => "top view",
+            Job::SectionView => "section view",
+            Job::Sheet => "sheet",
+            Job::DrawerFront => "drawer front",
+            Job::DrawerSide => "drawer side",
+            Job::DrawerFillet => "drawer fillet",
+            Job::Handle => "handle",
+        }
+    }
+}
+
+// The name of the job with a number.
+pub fn name_of(number: u8) -> &'static str {
+    match Job::ALL.get(number as usize) {
+        Some(job) => job.name(),
         None => "unknown job",
     }
 }

@@ -1,5 +1,5 @@
 // Rows as lines of text, with the reduction's word.
-use crate::names::{JOBS, name_of};
+use crate::names::{JOBS, Job, name_of};
 use crate::trouble::Trouble;
 use book::Book;
 use reduction::{HELD, reduce};
@@ -7,18 +7,16 @@ use std::io;
 use tables::Table;
 
 // What a job needs, and for what it waits.
-pub fn row(rt: &HostRuntime, book: &Book, job: u8) -> io::Result<()> {
+pub fn row(rt: &HostRuntime, book: &Book, job: Job) -> io::Result<()> {
     let need = book.need(job as usize);
     if need == 0 {
         return print!(rt; "active");
     }
     print!(rt; "needs {need} of ")?;
-    for place in 0..book.target_count(job as usize) {
-        if let Some(target) = book.target(job as usize, place) {
-            let comma = if place == 0 { "" } else { ", " };
-            let name = name_of(target);
-            print!(rt; "{comma}{name}")?;
-        }
+    for (place, target) in book.targets(job as usize).enumerate() {
+        let comma = if place == 0 { "" } else { ", " };
+        let name = name_of(target);
+        print!(rt; "{comma}{name}")?;
     }
     Ok(())
 }
@@ -27,13 +25,12 @@ pub fn row(rt: &HostRuntime, book: &Book, job: u8) -> io::Result<()> {
 pub fn waiting(rt: &HostRuntime, book: &Book) -> Result<(), Trouble> {
     let mut marks = [0; JOBS];
     reduce(book, &mut marks)?;
-    for (job, mark) in marks.iter().enumerate() {
-        if book.need(job) > 0 {
-            let job = (job & 0xff) as u8;
-            let name = name_of(job);
-            let word = if *mark == HELD { "stuck" } else { "slow" };
+    for (job, mark) in Job::ALL.iter().zip(marks) {
+        if book.need(*job as usize) > 0 {
+            let name = job.name();
+            let word = if mark == HELD { "stuck" } else { "slow" };
             print!(rt; "  {name}: ")?;
-            row(rt, book, job)?;
+            row(rt, book, *job)?;
             println!(rt; " ({word})")?;
         }
     }

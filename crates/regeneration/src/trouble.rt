@@ -2,36 +2,22 @@
 use book::{BookFault, RefusedEnding};
 use reduction::ReductionFault;
 use std::io;
+use thiserror::Error;
 
 // Nothing can be printed, or the book or the reduction refuses a call.
-#[derive(Debug, Drop)]
+#[derive(Debug, Drop, Error)]
 pub enum Trouble {
-    Output(io::Error),
-    Refused(BookFault),
-    NotReduced(ReductionFault),
+    #[error("a line can't be printed")]
+    Output(#[from] io::Error),
+    #[error("the book refuses a call")]
+    Refused(#[from] BookFault),
+    #[error("the reduction refuses a call")]
+    NotReduced(#[from] ReductionFault),
 }
 
-impl From<io::Error> for Trouble {
-    fn from(error: io::Error) -> Trouble {
-        Trouble::Output(error)
-    }
-}
-
-impl From<BookFault> for Trouble {
-    fn from(fault: BookFault) -> Trouble {
-        Trouble::Refused(fault)
-    }
-}
-
-// A ticket that is refused is given up; the fault goes on.
+// A ticket that is refused is given up; the fault goes on. No derive gives a ticket up.
 impl From<RefusedEnding> for Trouble {
     fn from(refused: RefusedEnding) -> Trouble {
         Trouble::Refused(refused.give_up())
-    }
-}
-
-impl From<ReductionFault> for Trouble {
-    fn from(fault: ReductionFault) -> Trouble {
-        Trouble::NotReduced(fault)
     }
 }
