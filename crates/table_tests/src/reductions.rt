@@ -11,36 +11,34 @@ const FOUR_JOBS: usize = 72;
 // What a byte holds that nothing has been written to.
 const UNTOUCHED: u8 = 9;
 
-// A job's row: its need, its number of targets, and the targets.
-type Row = (u8, usize, [u8; 3]);
+// A job's row: its need, and its targets.
+type Row<'a> = (u8, &'a [u8]);
 
-const ACTIVE: Row = (0, 0, [0, 0, 0]);
+const ACTIVE: Row<'static> = (0, &[]);
+
+// Writes a row as the bytes of a job in a chart.
+fn write(bytes: &mut [u8], row: Row) {
+    let (need, targets) = row;
+    let count = targets.len().min(16) as u8;
+    for (byte, value) in bytes.iter_mut().zip([need, count].iter().chain(targets)) {
+        *byte = *value;
+    }
+}
 
 // Writes the rows as a chart.
 fn charted(rows: &[Row; 4]) -> [u8; FOUR_JOBS] {
     let mut bytes = [0; FOUR_JOBS];
-    for job in 0..4 {
-        let (need, count, targets) = rows[job];
-        bytes[18 * job] = need;
-        for place in 0..count.min(3) {
-            bytes[18 * job + 1] = (place + 1) as u8;
-            bytes[18 * job + 2 + place] = targets[place];
-        }
+    for (job, row) in bytes.chunks_exact_mut(18).zip(rows) {
+        write(job, *row);
     }
     bytes
 }
 
-// The targets in use.
-fn in_use(targets: &[u8; 3], count: usize) -> &[u8] {
-    &targets[0..count.min(3)]
-}
-
 // Makes the requests of the rows.
 fn requested(rt: &impl Abort, book: &mut Book, rows: &[Row; 4]) {
-    for job in 0..4 {
-        let (need, count, targets) = rows[job];
-        if need > 0 {
-            assert!(rt; book.request(job, need, in_use(&targets, count)).is_ok());
+    for (job, (need, targets)) in rows.iter().enumerate() {
+        if *need > 0 {
+            assert!(rt; book.request(job, *need, targets).is_ok());
         }
     }
 }
@@ -67,13 +65,13 @@ fn both(rt: &impl Abort, rows: &[Row; 4], expected: [u8; 5]) {
 
 #[test]
 fn rings_and_ways_out(rt: HostRuntime) {
-    let to_1 = (1, 1, [1, 0, 0]);
-    let to_2 = (1, 1, [2, 0, 0]);
-    let to_0 = (1, 1, [0, 0, 0]);
+    let to_1: Row = (1, &[1]);
+    let to_2: Row = (1, &[2]);
+    let to_0: Row = (1, &[0]);
     both(&rt, &[to_1, to_2, to_0, ACTIVE], [1, 1, 1, 0, UNTOUCHED]);
     both(
         &rt,
-        &[to_1, to_2, (1, 2, [0, 3, 0]), ACTIVE],
+        &[to_1, to_2, (1, &[0, 3]), ACTIVE],
         [0, 0, 0, 0, UNTOUCHED],
     );
     both(
@@ -85,8 +83,8 @@ fn rings_and_ways_out(rt: HostRuntime) {
 
 #[test]
 fn two_of_three_at_the_edge(rt: HostRuntime) {
-    let two = (2, 3, [1, 2, 3]);
-    let to_0 = (1, 1, [0, 0, 0]);
+    let two: Row = (2, &[1, 2, 3]);
+    let to_0: Row = (1, &[0]);
     both(&rt, &[two, ACTIVE, to_0, ACTIVE], [0, 0, 0, 0, UNTOUCHED]);
     both(&rt, &[two, ACTIVE, to_0, to_0], [1, 0, 1, 1, UNTOUCHED]);
 }

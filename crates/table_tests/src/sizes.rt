@@ -4,12 +4,7 @@ use reduction::reduce;
 
 // Whether every byte is the expected one.
 fn all_are(bytes: &[u8], expected: u8) -> bool {
-    for byte in bytes {
-        if *byte != expected {
-            return false;
-        }
-    }
-    true
+    bytes.iter().all(|byte| *byte == expected)
 }
 
 // A chain of 256 jobs is loosened from its end; closed to a ring, all are stuck.
