@@ -1,9 +1,8 @@
 // Requests and grants, each with the waiting job's row before and after.
-ghost use Rattle.std.specs.Prelude.{◌≤◌};
-
-use crate::names::Job;
+use crate::names::{JOBS, Job};
 use crate::show;
 use crate::trouble::Trouble;
+use arrayvec::ArrayVec;
 use book::{Book, BookFault};
 
 // Makes a call of the book, and prints a job's row before and after it.
@@ -23,24 +22,27 @@ fn call<F: FnOnce(&mut Book) -> Result<(), BookFault>>(
     Ok(())
 }
 
-// A job asks for some of its targets; no row has more than 15.
-pub(crate) fn ask<const N: usize>(
+// A job asks for some of its targets.
+pub fn ask(
     rt: &HostRuntime,
     book: &mut Book,
     job: Job,
     need: u8,
-    targets: [Job; N],
-) -> Result<(), Trouble>
-    requires { N ≤ 15 }
-{
+    targets: &[Job],
+) -> Result<(), Trouble> {
     let name = job.name();
-    print!(rt; "{name} asks for {need} of {N}: ")?;
-    let targets = targets.map(|target| target as u8);
+    let count = targets.len();
+    print!(rt; "{name} asks for {need} of {count}: ")?;
+    // As many as there are jobs: a list of targets is rising, so that no longer one is lawful.
+    let mut numbers = ArrayVec::<u8, JOBS>::new();
+    for target in targets {
+        let _ = numbers.try_push(*target as u8);
+    }
     call(
         rt,
         book,
         job,
-        |book| book.request(job as usize, need, &targets),
+        |book| book.request(job as usize, need, numbers.as_slice()),
     )
 }
 

@@ -19,20 +19,20 @@ const TRAIL: usize = 64;
 
 // The morning's edits: a fillet, a preview and a sheet, each waiting for what it is made of.
 fn morning(rt: &HostRuntime, book: &mut Book) -> Result<(), Trouble> {
-    ask(rt, book, Job::Fillet, 2, [Job::LeftFace, Job::RightFace])?;
+    ask(rt, book, Job::Fillet, 2, &[Job::LeftFace, Job::RightFace])?;
     ask(
         rt,
         book,
         Job::Preview,
         1,
-        [Job::BodyMesh, Job::DoorMesh, Job::DrawerMesh],
+        &[Job::BodyMesh, Job::DoorMesh, Job::DrawerMesh],
     )?;
     ask(
         rt,
         book,
         Job::Sheet,
         2,
-        [
+        &[
             Job::FrontView,
             Job::SideView,
             Job::TopView,
@@ -62,9 +62,9 @@ fn drawer_edge(rt: &HostRuntime, book: &mut Book) -> Result<(), Trouble> {
         book,
         Job::DrawerFillet,
         2,
-        [Job::DrawerFront, Job::DrawerSide],
+        &[Job::DrawerFront, Job::DrawerSide],
     )?;
-    ask(rt, book, Job::SectionView, 1, [Job::DrawerFillet])?;
+    ask(rt, book, Job::SectionView, 1, &[Job::DrawerFillet])?;
     println!(rt; "the drawer edge is too thin: its fillet fails")?;
     Ok(())
 }
@@ -85,7 +85,7 @@ fn later_group(rt: &HostRuntime, book: &mut Book) -> Result<(), Trouble> {
     in_group(
         rt,
         book,
-        |rt, book| ask(rt, book, Job::Handle, 1, [Job::DoorMesh, Job::DrawerFront]),
+        |rt, book| ask(rt, book, Job::Handle, 1, &[Job::DoorMesh, Job::DrawerFront]),
         Book::keep,
     )?;
     println!(rt; "the group is kept")?;
@@ -94,8 +94,8 @@ fn later_group(rt: &HostRuntime, book: &mut Book) -> Result<(), Trouble> {
 
 // A careless edit: two views that wait for each other.
 fn views_in_a_circle(rt: &HostRuntime, book: &mut Book) -> Result<(), Trouble> {
-    ask(rt, book, Job::TopView, 1, [Job::SectionView])?;
-    ask(rt, book, Job::SectionView, 1, [Job::TopView])?;
+    ask(rt, book, Job::TopView, 1, &[Job::SectionView])?;
+    ask(rt, book, Job::SectionView, 1, &[Job::TopView])?;
     println!(rt; "what waits inside the group:")?;
     show::waiting(rt, book)
 }
