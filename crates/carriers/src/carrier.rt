@@ -13,7 +13,7 @@ const CARRIER_FULL: u8 = 12;
 pub struct CarrierFull;
 
 impl CarrierFull {
-    // The number by which the refusal is told.
+    // The number by which the refusal is told, which the rules fix.
     pub fn number(&self) -> u8
         ensures { result ≡ carrier_full }
     {

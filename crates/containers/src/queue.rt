@@ -6,7 +6,8 @@ ghost use Rattle.containers.specs.Orders.{first_loses_none};
 use crate::container::{Container, Full};
 use std::marker::Model;
 
-// The cells are a ring: the oldest record is in cell `head`, and the `len` records follow it round the end of the cells.
+// The cells are a ring: the oldest record is in cell `head`, and the `len` records follow it round the end of the cells. These are
+// lent, since the project has no heap.
 #[derive(Drop)]
 pub struct Queue<'a, T> {
     cells: &'a mut [T],

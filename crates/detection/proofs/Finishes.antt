@@ -1,27 +1,20 @@
 -- What a detection leaves when no message is left to take.
-use Rattle.std.proofs.Common.{◌≡◌, ℕ, ◌*◌, ◌^◌, ◌<◌, ◌≤◌, List, [], ◌++◌, length, get_or, take, drop, None, sym, refl, ap, ◌∙◌, subst, arith}
-use Rattle.std.proofs.lemmas.List.{nil_from_length, take_all, drop_all, take-append-le, drop_at, get_or_append_left}
+use Rattle.std.proofs.Common.{◌≡◌, ℕ, ◌^◌, ◌<◌, List, [], length, get_or, None, sym, refl, ap, ◌∙◌, subst, arith}
+use Rattle.std.proofs.lemmas.List.{nil_from_length, take_all, drop_all}
 use Rattle.std.proofs.lemmas.Bool.{ltb-false}
-use Rattle.std.proofs.lemmas.Bool.Decides.{nat_tests}
 use Rattle.carriers.specs.Meaning.{Carried, Took}
 use Rattle.carriers.specs.declared.message.Message.{Message}
 use Rattle.rows.specs.Waiting.{Waiting}
-use Rattle.tables.specs.Tables.{waits}
 use Rattle.exchange.specs.Records.{blank}
 use Rattle.exchange.specs.Runs.{Exchange}
 use Rattle.exchange.specs.declared.record.RunRecord.{RunRecord}
 use Rattle.exchange.proofs.Bounded.{runs_are_bounded}
 use Rattle.exchange.proofs.Told.{ended_runs_tell}
 use Rattle.detection.specs.Asked.{Tabled}
-use Rattle.detection.specs.Detected.{stop, verdict_of, Finished}
+use Rattle.detection.specs.Detected.{verdict_of, Finished}
 use Rattle.detection.specs.declared.verdict.Detection.{Detection}
 use Rattle.detection.proofs.Going.{state, Going, growth, within_bounds, growth_is_the_deliveries}
 use Rattle.detection.proofs.Verdicts.{free_verdict_tells, stuck_verdict_tells}
-
--- No check stops a detection.
-pub no_check_stops : (rows : List Waiting) (initiator records : ℕ) (carrier : Carried) → initiator < length rows → length rows ≤ records
-    → length carrier.waiting ≡ 0 → 2 * waits rows ≤ carrier.capacity → stop rows initiator records carrier ≡ None
-no_check_stops rows initiator records carrier job long empty wide = grind (arith, nat_tests)
 
 -- The end of a run: no message came.
 module _ {rows : List Waiting} {initiator : ℕ} (tabled : Tabled rows) (job : initiator < length rows)
@@ -57,26 +50,3 @@ module _ {rows : List Waiting} {initiator : ℕ} (tabled : Tabled rows) (job : i
         free = free_verdict_tells (get_or records initiator blank).free d.verdict told freed;
         bounded = runs_are_bounded rows tabled.lawful initiator job;
       }
-
--- A run in the first records of a longer list leaves those beyond them.
-pub longer_list_is_finished : {rows : List Waiting} {initiator : ℕ} {was part : List RunRecord} {before after : Carried} {d : Detection}
-    → initiator < length rows → length part ≡ length rows
-    → Finished rows initiator (take (length rows) was) part before after d
-    → Finished rows initiator was (part ++ drop (length rows) was) before after d
-longer_list_is_finished {rows} {initiator} {was} {part} {before} {after} {d} job long finished =
-    let n = length rows in
-    record {
-      order = finished.order;
-      run = subst (λ (rs : List RunRecord). Exchange rows initiator finished.order (state rs []))
-          (sym (take-append-le n part (drop n was) (omega arith))) finished.run;
-      count = finished.count;
-      few = finished.few;
-      rest = drop_at part (drop n was) n long;
-      waiting = finished.waiting;
-      capacity = finished.capacity;
-      handed = finished.handed;
-      told = finished.told ∙ ap verdict_of (sym (get_or_append_left part (drop n was) blank initiator (omega arith)));
-      stuck = finished.stuck;
-      free = finished.free;
-      bounded = finished.bounded;
-    }

@@ -49,6 +49,7 @@ fn waits<T: Table>(table: &T) -> usize
     ensures value { result ≡ waits_of (T.Table.rows table.now) }
     ensures bound { result ≤ jobs_max * targets_max }
 {
+    // no chain with `sum`: it would ask that the sum of any first jobs fits, of which a loop's invariant speaks anyway
     let mut waits = 0;
     for job in 0..table.jobs() {
         waits += table.target_count(job);

@@ -15,7 +15,7 @@ pub fn send<C: Carrier>(carrier: &mut C, kind: Kind, wait: Wait)
     requires { RoomFor (C.Carrier.carried carrier.old) (message kind wait ∷ []) }
     ensures { Sent (C.Carrier.carried carrier.old) (C.Carrier.carried carrier.new) (message kind wait ∷ []) }
 {
-    let _ = carrier.put(Message { kind, wait });
+    carrier.put(Message { kind, wait }).unwrap();
 }
 
 // Puts a message on a wait that a record names; where it names none, no message.
@@ -38,6 +38,7 @@ pub fn send_notifies<T: TwoWayTable, C: Carrier>(
     ensures count { result ≡ length (at (T.Table.rows table.now.table.now) job).targets }
     ensures sent { Sent (C.Carrier.carried carrier.old) (C.Carrier.carried carrier.new) (notifies (T.Table.rows table.now.table.now) job) }
 {
+    // counted as they are put, since a table need not know the number without going through them
     let mut count = 0;
     for target in table.table.targets(job as usize) {
         let wait = Wait {
@@ -50,7 +51,8 @@ pub fn send_notifies<T: TwoWayTable, C: Carrier>(
     count
 }
 
-// Puts GRANT on each wait for a job, and tells how many there are.
+// Puts GRANT on each wait for a job, and tells how many there are. One function for this and the one above would be no plainer: its
+// contract would speak of what any iterator yields, in place of targets and waiters.
 pub fn send_grants<T: TwoWayTable, C: Carrier>(
     table: &LawfulTable<T>,
     job: u8,

@@ -36,7 +36,8 @@ impl BookFault {
     }
 }
 
-// A request that makes no row is refused for the row's reason.
+// A request that makes no row is refused for the row's reason. Written by hand, as the next two are: a derive would not promise
+// which fault comes out.
 impl From<RowFault> for BookFault {
     ghost from_gives = { λ x y. y ≡ of_row x };
 

@@ -5,7 +5,7 @@ ghost use Rattle.chart.specs.Faults.{number, value};
 use crate::fault::ChartFault;
 
 impl ChartFault {
-    // The number of the refusal.
+    // The number of the refusal, which the rules fix.
     pub fn number(&self) -> u8
         ensures { result ≡ number self.now }
     {

@@ -5,7 +5,7 @@ ghost use Rattle.detection.specs.Faults.{number};
 use crate::fault::DetectionFault;
 
 impl DetectionFault {
-    // The refusal's number.
+    // The refusal's number, which the rules fix.
     pub fn number(&self) -> u8
         ensures { result ≡ number self.now }
     {

@@ -8,7 +8,7 @@ use crate::script::fault::ScriptFault;
 use detection::DetectionFault;
 
 impl ScriptFault {
-    // The fault's number.
+    // The fault's number, which the rules fix.
     pub fn number(&self) -> u8
         ensures { result ≡ script_number self.now }
     {
@@ -33,7 +33,7 @@ impl ScriptFault {
         }
     }
 
-    // Whose fault it is: 0 the script's, 1 the book's, 2 the detection's.
+    // Whose fault it is: 0 the script's, 1 the book's, 2 the detection's. The rules fix the numbers.
     pub fn layer(&self) -> u8
         ensures { result ≡ script_layer self.now }
     {
@@ -45,6 +45,7 @@ impl ScriptFault {
     }
 }
 
+// Written by hand, as the next one is: a derive would not promise which fault comes out.
 impl From<BookFault> for ScriptFault {
     ghost from_gives = { λ x y. y ≡ OfBook x };
 
