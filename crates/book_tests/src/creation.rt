@@ -1,6 +1,6 @@
 // How many jobs a new book has.
 use crate::common::*;
-use book::{Book, Old, PlainRow, Table};
+use book::{Book, Table};
 
 #[test]
 fn has_the_jobs_asked_for(rt: HostRuntime) {
@@ -14,10 +14,7 @@ fn has_the_jobs_asked_for(rt: HostRuntime) {
         (257, 0),
         (65536, 0),
     ] {
-        let mut memory = [Old {
-            job: 0,
-            row: PlainRow::idle(),
-        }; 1];
+        let mut memory = trail::<1>();
         let mut book = Book::new(asked, 7, &mut memory);
         assert_eq!(rt; book.jobs(), jobs);
         assert_eq!(rt; book.depth(), 0);
@@ -32,10 +29,7 @@ fn has_the_jobs_asked_for(rt: HostRuntime) {
 #[test]
 fn last_job_waits(rt: HostRuntime) {
     for (jobs, last) in [(2, 1), (256, 255)] {
-        let mut memory = [Old {
-            job: 0,
-            row: PlainRow::idle(),
-        }; 1];
+        let mut memory = trail::<1>();
         let mut book = Book::new(jobs, 7, &mut memory);
         assert!(rt; is_row(&book, last as usize, 0, &[]));
         assert_eq!(rt; told(book.request(last as usize, 1, &[0])), 0);

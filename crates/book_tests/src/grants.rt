@@ -1,6 +1,6 @@
 // Grants: what they leave, and the refusals in their order.
 use crate::common::*;
-use book::{Book, Old, PlainRow, Table};
+use book::{Book, Table};
 use std::test::Fail;
 
 // A grant takes its wait away, and the one that meets the last need takes the others away with it.
@@ -8,10 +8,7 @@ use std::test::Fail;
 fn last_need_clears_the_waits(rt: HostRuntime) {
     // granter, and need and targets of job 0 after the grant
     let cases: [(usize, u8, &[u8]); 2] = [(2, 1, &[1, 3]), (3, 0, &[])];
-    let mut memory = [Old {
-        job: 0,
-        row: PlainRow::idle(),
-    }; 1];
+    let mut memory = trail::<1>();
     let mut book = Book::new(4, 7, &mut memory);
     assert_eq!(rt; told(book.request(0, 2, &[1, 2, 3])), 0);
     for (granter, need, targets) in cases {
@@ -40,10 +37,7 @@ fn refuses_in_order(rt: HostRuntime) -> Result<(), Fail> {
         (3, 3, 7),
         (2, 0, 5),
     ];
-    let mut memory = [Old {
-        job: 0,
-        row: PlainRow::idle(),
-    }; 1];
+    let mut memory = trail::<1>();
     let mut book = Book::new(4, 7, &mut memory[..0]);
     assert_eq!(rt; told(book.request(0, 1, &[1, 2])), 0);
     assert_eq!(rt; told(book.request(1, 1, &[0])), 0);

@@ -1,6 +1,6 @@
 // How deep groups nest.
 use crate::common::*;
-use book::{Book, Old, PlainRow};
+use book::Book;
 
 // Opens groups, each in the one before, until one is refused, at most `most`; then ends them, by turns kept and cancelled.
 // How many endings were accepted, and the number of the refusal.
@@ -12,12 +12,7 @@ fn filled(book: &mut Book, most: u8) -> (u8, u8) {
         Err(fault) => (0, fault.number()),
         Ok(ticket) => {
             let (accepted, number) = filled(book, most - 1);
-            let ending = if most % 2 == 0 {
-                book.keep(ticket)
-            } else {
-                book.cancel(ticket)
-            };
-            if ended(ending) == 0 {
+            if ended(end(book, ticket, most % 2 == 0)) == 0 {
                 (accepted.saturating_add(1), number)
             } else {
                 (accepted, number)
@@ -28,10 +23,7 @@ fn filled(book: &mut Book, most: u8) -> (u8, u8) {
 
 #[test]
 fn ninth_group_is_too_deep(rt: HostRuntime) {
-    let mut memory = [Old {
-        job: 0,
-        row: PlainRow::idle(),
-    }; 1];
+    let mut memory = trail::<1>();
     let mut book = Book::new(1, 7, &mut memory);
     for (most, number) in [(9, 8), (8, 0), (20, 8)] {
         let (accepted, refusal) = filled(&mut book, most);

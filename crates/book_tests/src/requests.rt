@@ -1,6 +1,6 @@
 // Requests: the limit of the targets, and the refusals in their order.
 use crate::common::*;
-use book::{Book, BookFault, Old, PlainRow};
+use book::{Book, BookFault};
 use std::test::Fail;
 
 // Sixteen targets, and one more.
@@ -8,10 +8,7 @@ const MANY: [u8; 17] = [0, 1, 2, 3, 4, 5, 6, 7, 8, 9, 10, 11, 12, 13, 14, 15, 16
 
 #[test]
 fn waits_for_sixteen(rt: HostRuntime) {
-    let mut memory = [Old {
-        job: 0,
-        row: PlainRow::idle(),
-    }; 1];
+    let mut memory = trail::<1>();
     let mut book = Book::new(18, 7, &mut memory);
     assert_eq!(rt; told(book.request(17, 16, &MANY)), 3);
     assert_eq!(rt; told(book.request(17, 1, &MANY)), 3);
@@ -47,10 +44,7 @@ fn refuses_in_order(rt: HostRuntime) -> Result<(), Fail> {
         (0, 3, &[1, 2, 4], 4, Some(2)),
         (0, 1, &[1], 5, None),
     ];
-    let mut memory = [Old {
-        job: 0,
-        row: PlainRow::idle(),
-    }; 1];
+    let mut memory = trail::<1>();
     let mut book = Book::new(4, 7, &mut memory[..0]);
     assert_eq!(rt; told(book.request(1, 1, &[0])), 0);
     let ticket = opened(&mut book)?;

@@ -1,6 +1,6 @@
 // Tickets that do not fit, and come back.
 use crate::common::*;
-use book::{Book, Old, PlainRow, RefusedEnding, Ticket};
+use book::{Book, RefusedEnding, Ticket};
 use std::test::Fail;
 
 // The ticket that a refused ending hands back, and the number of the refusal.
@@ -17,18 +17,9 @@ fn back(answer: Result<(), RefusedEnding>) -> Result<(Ticket, u8), Fail> {
 // A ticket of mark 7 goes to a book of mark 8 with a group open, and to one of mark 7 with none; then its own book takes it.
 #[test]
 fn goes_home_unchanged(rt: HostRuntime) -> Result<(), Fail> {
-    let mut first = [Old {
-        job: 0,
-        row: PlainRow::idle(),
-    }; 1];
-    let mut second = [Old {
-        job: 0,
-        row: PlainRow::idle(),
-    }; 1];
-    let mut third = [Old {
-        job: 0,
-        row: PlainRow::idle(),
-    }; 1];
+    let mut first = trail::<1>();
+    let mut second = trail::<1>();
+    let mut third = trail::<1>();
     let mut home = Book::new(2, 7, &mut first);
     let mut foreign = Book::new(2, 8, &mut second);
     let mut idle = Book::new(2, 7, &mut third);
@@ -53,18 +44,10 @@ fn goes_home_unchanged(rt: HostRuntime) -> Result<(), Fail> {
 #[test]
 fn waits_for_the_inner_group(rt: HostRuntime) -> Result<(), Fail> {
     for keeping in [true, false] {
-        let mut memory = [Old {
-            job: 0,
-            row: PlainRow::idle(),
-        }; 1];
+        let mut memory = trail::<1>();
         let mut book = Book::new(2, 7, &mut memory);
         let (outer, inner) = opened_twice(&mut book)?;
-        let ending = if keeping {
-            book.keep(outer)
-        } else {
-            book.cancel(outer)
-        };
-        match ending {
+        match end(&mut book, outer, keeping) {
             Ok(()) => {
                 let _ = ended(book.keep(inner));
                 return Err(Fail::new("the outer group was ended"));

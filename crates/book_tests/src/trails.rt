@@ -1,6 +1,6 @@
 // How many edits the groups hold.
 use crate::common::*;
-use book::{Book, Old, PlainRow, Table};
+use book::{Book, Table};
 use std::test::Fail;
 
 // An edit of job 0: it waits for job 1, or no longer waits.
@@ -16,10 +16,7 @@ fn turned(book: &mut Book) -> u8 {
 #[test]
 fn group_takes_as_many_edits_as_records(rt: HostRuntime) -> Result<(), Fail> {
     for records in 0..3 {
-        let mut memory = [Old {
-            job: 0,
-            row: PlainRow::idle(),
-        }; 2];
+        let mut memory = trail::<2>();
         let mut book = Book::new(2, 7, &mut memory[..records]);
         for keeping in [true, false, true] {
             for _ in 0..3 {
@@ -33,12 +30,7 @@ fn group_takes_as_many_edits_as_records(rt: HostRuntime) -> Result<(), Fail> {
             let waits = book.waits_for(0, 1);
             let refused = turned(&mut book);
             let same = book.waits_for(0, 1) == waits;
-            let ending = if keeping {
-                book.keep(ticket)
-            } else {
-                book.cancel(ticket)
-            };
-            assert_eq!(rt; ended(ending), 0);
+            assert_eq!(rt; ended(end(&mut book, ticket, keeping)), 0);
             assert!(rt; taken && same);
             assert_eq!(rt; refused, 5);
         }

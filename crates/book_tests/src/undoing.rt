@@ -1,15 +1,12 @@
 // What kept and cancelled groups leave.
 use crate::common::*;
-use book::{Book, Old, PlainRow, Table};
+use book::{Book, Table};
 use std::test::Fail;
 
 // Every row of the group's opening is back, one that was written three times too.
 #[test]
 fn cancel_restores_the_rows_of_the_opening(rt: HostRuntime) -> Result<(), Fail> {
-    let mut memory = [Old {
-        job: 0,
-        row: PlainRow::idle(),
-    }; 4];
+    let mut memory = trail::<4>();
     let mut book = Book::new(4, 7, &mut memory);
     assert_eq!(rt; told(book.request(0, 2, &[1, 2, 3])), 0);
     let ticket = opened(&mut book)?;
@@ -30,13 +27,8 @@ fn inner(book: &mut Book, keeping: bool) -> u8 {
         Err(fault) => fault.number(),
         Ok(ticket) => {
             let edit = told(book.request(1, 1, &[2]));
-            let ending = if keeping {
-                book.keep(ticket)
-            } else {
-                book.cancel(ticket)
-            };
-            let end = ended(ending);
-            if edit == 0 { end } else { edit }
+            let ending = ended(end(book, ticket, keeping));
+            if edit == 0 { ending } else { edit }
         }
     }
 }
@@ -51,10 +43,7 @@ fn outer_group_has_the_records_of_a_kept_one(rt: HostRuntime) -> Result<(), Fail
         (false, true, 0),
         (false, false, 0),
     ] {
-        let mut memory = [Old {
-            job: 0,
-            row: PlainRow::idle(),
-        }; 2];
+        let mut memory = trail::<2>();
         let mut book = Book::new(3, 7, &mut memory);
         let ticket = opened(&mut book)?;
         let first = told(book.request(0, 1, &[2]));
@@ -63,12 +52,7 @@ fn outer_group_has_the_records_of_a_kept_one(rt: HostRuntime) -> Result<(), Fail
             && book.waits_for(1, 2) == inner_kept
             && book.depth() == 1;
         let third = told(book.request(2, 1, &[0]));
-        let ending = if outer_kept {
-            book.keep(ticket)
-        } else {
-            book.cancel(ticket)
-        };
-        assert_eq!(rt; ended(ending), 0);
+        assert_eq!(rt; ended(end(&mut book, ticket, outer_kept)), 0);
         assert!(rt; first == 0 && second == 0 && third == number && inside);
         assert_eq!(rt; book.waits_for(0, 2), outer_kept);
         assert_eq!(rt; book.waits_for(1, 2), inner_kept && outer_kept);
