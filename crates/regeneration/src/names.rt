@@ -25,7 +25,7 @@ pub enum Job {
 }
 
 impl Job {
-    // All of them, by number.
+    // All of them, by number. Written out, since a macro of the repository may write impls alone.
     pub const ALL: [Job; JOBS] = [
         Job::LeftFace,
         Job::RightFace,

@@ -1,7 +1,7 @@
 // The tables of small books, run as books over all three carriers.
 use book::{Book, Old, PlainRow};
 use carriers::{Carrier, Kind, Message, Picker, QueueCarrier, StackCarrier, Wait};
-use detection::{RunRecord, Verdict, detect};
+use detection::{Detection, RunRecord, Verdict, detect};
 use std::process::Abort;
 
 // Room for two messages on each wait of the largest of these books.
@@ -45,14 +45,15 @@ fn answers<C: Carrier>(rt: &impl Abort, book: &Book, carrier: &mut C, expected: 
         granted: UNTOUCHED,
         ..RunRecord::blank()
     }; RECORDS];
-    match detect(book, expected.initiator, &mut records, carrier) {
-        Ok(found) => {
-            assert!(rt; found.verdict == expected.verdict);
-            assert_eq!(rt; found.deliveries, expected.deliveries);
-            assert_eq!(rt; carrier.handed_out(), expected.deliveries);
-        }
-        Err(_) => assert!(rt; false),
-    }
+    let found = detect(book, expected.initiator, &mut records, carrier);
+    assert!(rt;
+        found
+            == Ok(Detection {
+                verdict: expected.verdict,
+                deliveries: expected.deliveries
+            })
+    );
+    assert_eq!(rt; carrier.handed_out(), expected.deliveries);
     assert_eq!(rt; carrier.waiting(), 0);
     assert_eq!(rt; records[RECORDS - 1].granted, UNTOUCHED);
 }
