@@ -1,4 +1,5 @@
-// What the tests share: calls told by the number of their refusal, which is 0 where they are accepted.
+// What the tests share: calls told by the number of their refusal, as the rules number them, and by 0 where they are accepted, so
+// that a table of cases has one column for both.
 use book::{Book, BookFault, Old, PlainRow, RefusedEnding, Table, Ticket};
 use std::test::Fail;
 
@@ -20,7 +21,8 @@ pub fn ended(answer: Result<(), RefusedEnding>) -> u8 {
     answer.map_or_else(|refused| refused.give_up().number(), |()| 0)
 }
 
-// Ends a group, which is kept or cancelled.
+// Ends a group, which is kept or cancelled. Tables of cases say which by yes or no: two pointers in their place would have to be shown
+// callable in each test.
 pub fn end(book: &mut Book, ticket: Ticket, keeping: bool) -> Result<(), RefusedEnding> {
     if keeping {
         book.keep(ticket)

@@ -42,6 +42,7 @@ fn refuses_in_order(rt: HostRuntime) -> Result<(), Fail> {
     assert_eq!(rt; told(book.request(0, 1, &[1, 2])), 0);
     assert_eq!(rt; told(book.request(1, 1, &[0])), 0);
     let ticket = opened(&mut book)?;
+    // asserted after the group has ended, since its ticket must be handed back on every way out
     let mut right = true;
     for (granter, waiter, number) in cases {
         right = told(book.grant(granter, waiter)) == number && right;

@@ -48,6 +48,7 @@ fn refuses_in_order(rt: HostRuntime) -> Result<(), Fail> {
     let mut book = Book::new(4, 7, &mut memory[..0]);
     assert_eq!(rt; told(book.request(1, 1, &[0])), 0);
     let ticket = opened(&mut book)?;
+    // asserted after the group has ended, since its ticket must be handed back on every way out
     let mut right = true;
     for (job, need, targets, number, value) in cases {
         right = refused(book.request(job, need, targets), number, value) && right;

@@ -1,9 +1,9 @@
 // A carrier made of a container of messages, whatever the container's order, and a count of those handed out.
 ghost use Rattle.std.specs.Prelude.{◌≡◌, length, is_ok, if◌then◌else◌};
-ghost use Rattle.containers.specs.Held.{vacant, with_last};
+ghost use Rattle.containers.specs.Held.{with_last};
 ghost use Rattle.containers.specs.Taken.{Popped};
 ghost use Rattle.carriers.specs.Meaning.{Put, Took};
-ghost use Rattle.carriers.specs.Orders.{counted};
+ghost use Rattle.carriers.specs.Orders.{counted, carried_by, held_carried, container, picker_messages, picks_left, new_carrier};
 
 use crate::carrier::{Carrier, CarrierFull};
 use crate::message::Message;
@@ -29,8 +29,8 @@ pub type Picker<'a, 'p> = Counted<Picked<'a, 'p>>;
 impl<C: Container<Message>> Counted<C> {
     // The carrier in which the container's messages wait; it has handed out none.
     pub fn over(messages: C) -> Counted<C>
-        ensures messages { result.messages ≡ messages }
-        ensures handed { result.handed ≡ 0 }
+        ensures messages { container result ≡ messages }
+        ensures carried { carried_by C.Container.held result ≡ counted (C.Container.held messages) 0 }
     {
         Counted {
             messages,
@@ -39,11 +39,11 @@ impl<C: Container<Message>> Counted<C> {
     }
 }
 
+// Each of the three names has a constructor of its own: no plainer as one, since what the memory is made into differs.
 impl<'a> QueueCarrier<'a> {
     // A carrier in which nothing waits, with room for as many messages as there are cells; it has handed out none.
     pub fn new(cells: &'a mut [Message]) -> QueueCarrier<'a>
-        ensures messages { result.messages ≡ vacant (length cells.old) }
-        ensures handed { result.handed ≡ 0 }
+        ensures { held_carried result ≡ new_carrier (length cells.old) }
     {
         Counted::over(Queue::new(cells))
     }
@@ -52,8 +52,7 @@ impl<'a> QueueCarrier<'a> {
 impl<'a> StackCarrier<'a> {
     // A carrier in which nothing waits, with room for as many messages as there are cells; it has handed out none.
     pub fn new(cells: &'a mut [Message]) -> StackCarrier<'a>
-        ensures messages { result.messages ≡ vacant (length cells.old) }
-        ensures handed { result.handed ≡ 0 }
+        ensures { held_carried result ≡ new_carrier (length cells.old) }
     {
         Counted::over(Stack::new(cells))
     }
@@ -63,22 +62,21 @@ impl<'a, 'p> Picker<'a, 'p> {
     // A carrier in which nothing waits, with room for as many messages as there are cells; it has handed out none, and used
     // up none of the picks.
     pub fn new(cells: &'a mut [Message], picks: &'p [u16]) -> Picker<'a, 'p>
-        ensures messages { result.messages.messages ≡ vacant (length cells.old) }
-        ensures picks { result.messages.picks.now ≡ picks.now }
-        ensures handed { result.handed ≡ 0 }
+        ensures carried { carried_by picker_messages result ≡ new_carrier (length cells.old) }
+        ensures picks { picks_left (container result) ≡ picks.now }
     {
         Counted::over(Picked::new(cells, picks))
     }
 }
 
 impl<C: Container<Message>> Carrier for Counted<C> {
-    ghost carried = { λ c. counted (C.Container.held c.messages) c.handed };
+    ghost carried = { carried_by C.Container.held };
 
     // The message comes after those that wait.
     fn put(&mut self, message: Message) -> Result<(), CarrierFull>
-        ensures put { Put (counted (C.Container.held self.old.messages) self.old.handed) (counted (C.Container.held self.new.messages) self.new.handed) message (is_ok result) }
-        ensures last { C.Container.held self.new.messages ≡ (if is_ok result then with_last (C.Container.held self.old.messages) message else C.Container.held self.old.messages) }
-        ensures beside { C.Container.keeps self.old.messages self.new.messages }
+        ensures put { Put (carried_by C.Container.held self.old) (carried_by C.Container.held self.new) message (is_ok result) }
+        ensures last { C.Container.held (container self.new) ≡ (if is_ok result then with_last (C.Container.held (container self.old)) message else C.Container.held (container self.old)) }
+        ensures beside { C.Container.keeps (container self.old) (container self.new) }
     {
         self.messages.put(message)?;
         Ok(())
@@ -86,8 +84,8 @@ impl<C: Container<Message>> Carrier for Counted<C> {
 
     // The message comes that is next in the container's order.
     fn take(&mut self) -> Option<Message>
-        ensures took { Took (counted (C.Container.held self.old.messages) self.old.handed) (counted (C.Container.held self.new.messages) self.new.handed) result }
-        ensures order { Popped C.Container.held C.Container.gives result self.old.messages self.new.messages }
+        ensures took { Took (carried_by C.Container.held self.old) (carried_by C.Container.held self.new) result }
+        ensures order { Popped C.Container.held C.Container.gives result (container self.old) (container self.new) }
     {
         let message = self.messages.pop()?;
         self.handed = self.handed.wrapping_add(1);

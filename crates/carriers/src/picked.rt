@@ -1,6 +1,7 @@
 // The container whose messages come in an order that its user picks.
 ghost use Rattle.std.specs.Prelude.{◌≡◌, ◌<◌, length};
 ghost use Rattle.containers.specs.Held.{vacant};
+ghost use Rattle.carriers.specs.Orders.{picker_messages, picks_left};
 ghost use Rattle.carriers.specs.Picks.{picked_place, same_picks, gives_picked, picked_loses_none};
 
 use crate::message::Message;
@@ -16,8 +17,8 @@ pub struct Picked<'a, 'p> {
 impl<'a, 'p> Picked<'a, 'p> {
     // Room for as many messages as there are cells, none of which is taken, and all the picks.
     pub fn new(cells: &'a mut [Message], picks: &'p [u16]) -> Picked<'a, 'p>
-        ensures messages { result.messages ≡ vacant (length cells.old) }
-        ensures picks { result.picks.now ≡ picks.now }
+        ensures messages { picker_messages result ≡ vacant (length cells.old) }
+        ensures picks { picks_left result ≡ picks.now }
     {
         Picked {
             messages: Stack::new(cells),
@@ -36,7 +37,7 @@ fn first_place(picks: &[u16], waiting: usize) -> usize
 }
 
 impl<'a, 'p> Container<Message> for Picked<'a, 'p> {
-    ghost held = { λ p. p.messages };
+    ghost held = { picker_messages };
 
     ghost keeps = { same_picks };
 

@@ -10,7 +10,7 @@ use crate::lawful::LawfulTable;
 use carriers::{Carrier, Kind, Message, Wait};
 use tables::{Table, TwoWayTable};
 
-// Puts a message for which there is room.
+// Puts a message for which there is room. Its kind and its wait come apart, as each caller has them.
 pub fn send<C: Carrier>(carrier: &mut C, kind: Kind, wait: Wait)
     requires { RoomFor (C.Carrier.carried carrier.old) (message kind wait ∷ []) }
     ensures { Sent (C.Carrier.carried carrier.old) (C.Carrier.carried carrier.new) (message kind wait ∷ []) }
@@ -38,7 +38,7 @@ pub fn send_notifies<T: TwoWayTable, C: Carrier>(
     ensures count { result ≡ length (at (T.Table.rows table.now.table.now) job).targets }
     ensures sent { Sent (C.Carrier.carried carrier.old) (C.Carrier.carried carrier.new) (notifies (T.Table.rows table.now.table.now) job) }
 {
-    // counted as they are put, since a table need not know the number without going through them
+    // counted as they are put: asked apart, the number would take the table a second reading
     let mut count = 0;
     for target in table.table.targets(job as usize) {
         let wait = Wait {
@@ -62,6 +62,7 @@ pub fn send_grants<T: TwoWayTable, C: Carrier>(
     ensures count { result ≡ length (waiters (T.Table.rows table.now.table.now) job) }
     ensures sent { Sent (C.Carrier.carried carrier.old) (C.Carrier.carried carrier.new) (grants (T.Table.rows table.now.table.now) job) }
 {
+    // counted as they are put, as above
     let mut count = 0;
     for waiter in table.table.waiters(job as usize) {
         let wait = Wait {

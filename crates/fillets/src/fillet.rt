@@ -14,6 +14,7 @@ pub enum FilletFault {
     InBook(BookFault),
 }
 
+// Written by hand, as the next one is: a derive would not promise which fault comes out.
 impl From<BookFault> for FilletFault {
     ghost from_gives = { λ x y. y ≡ InBook x };
 

@@ -47,6 +47,7 @@ impl<'a, 'q, T: Table> Marking<'a, 'q, T> {
             marks,
             queue,
         };
+        // the test in the loop, as below: a `filter` would be no plainer
         for job in 0..table.jobs() {
             if table.need(job) == 0 {
                 marking.loosen(job);
@@ -62,6 +63,7 @@ impl<'a, 'q, T: Table> Marking<'a, 'q, T> {
         ensures settled { Settled self.new }
         ensures steps { steps_left self.new ≡ steps_left self.old }
     {
+        // no `filter`, which would borrow the marks that the loop changes
         for waiter in 0..self.table.jobs() {
             if self.is_next(waiter, job) {
                 self.loosen(waiter);

@@ -1,9 +1,12 @@
 // Requests and grants, each with the waiting job's row before and after.
-use crate::names::{JOBS, Job};
+use crate::names::Job;
 use crate::show;
 use crate::trouble::Trouble;
 use arrayvec::ArrayVec;
-use book::{Book, BookFault};
+use book::{Book, BookFault, TARGETS_MAX};
+
+// One target more than a row can have, so that the book refuses a list that is too long.
+const ASKED_MAX: usize = TARGETS_MAX + 1;
 
 // Makes a call of the book, and prints a job's row before and after it.
 fn call<F: FnOnce(&mut Book) -> Result<(), BookFault>>(
@@ -33,8 +36,7 @@ pub fn ask(
     let name = job.name();
     let count = targets.len();
     print!(rt; "{name} asks for {need} of {count}: ")?;
-    // As many as there are jobs: a list of targets is rising, so that no longer one is lawful.
-    let mut numbers = ArrayVec::<u8, JOBS>::new();
+    let mut numbers = ArrayVec::<u8, ASKED_MAX>::new();
     for target in targets {
         let _ = numbers.try_push(*target as u8);
     }

@@ -10,7 +10,7 @@ ghost use Rattle.rows.specs.Law.{sound};
 pub const TARGETS_MAX: usize = 16;
 
 // A row as it is stored: the first `count` of the targets are in use. The project fixes this form, which is copied into lent memory.
-#[derive(Clone, Copy, Debug, PartialEq, Eq)]
+#[derive(Clone, Copy, Debug)]
 pub struct PlainRow {
     pub need: u8,
     pub count: u8,
@@ -18,7 +18,7 @@ pub struct PlainRow {
 }
 
 // A row whose type carries the law: a need of at most the count, at most 16 targets in use, and these rising.
-#[derive(Clone, Copy, Debug, PartialEq, Eq)]
+#[derive(Clone, Copy, Debug)]
 pub struct Row {
     plain: PlainRow,
     ghost lawful: { sound plain.need plain.count plain.targets ≡ true },

@@ -1,12 +1,12 @@
 // Small tables, as books and as charts.
 use book::{Book, Old, PlainRow};
-use chart::Chart;
+use chart::{Chart, ROW_BYTES};
 use reduction::reduce;
 use std::process::Abort;
 use tables::Table;
 
 // How many bytes four jobs have in a chart.
-const FOUR_JOBS: usize = 72;
+const FOUR_JOBS: usize = 4 * ROW_BYTES;
 
 // What a byte holds that nothing has been written to.
 const UNTOUCHED: u8 = 9;
@@ -28,7 +28,7 @@ fn write(bytes: &mut [u8], row: Row) {
 // Writes the rows as a chart.
 fn charted(rows: &[Row; 4]) -> [u8; FOUR_JOBS] {
     let mut bytes = [0; FOUR_JOBS];
-    for (job, row) in bytes.chunks_exact_mut(18).zip(rows) {
+    for (job, row) in bytes.chunks_exact_mut(ROW_BYTES).zip(rows) {
         write(job, *row);
     }
     bytes

@@ -35,7 +35,7 @@ pub trait Table {
     fn waits_for(&self, waiter: usize, job: usize) -> bool
         ensures { result ≡ among job (at (rows self.now) waiter).targets }
     {
-        // by the places: only a sized table has `targets`
+        // by the places: `targets` would be no plainer, since only a sized table has it, and a `dyn` one would lose this method
         (0..self.target_count(waiter))
             .filter_map(|place| self.target(waiter, place))
             .any(|target| target as usize == job)
@@ -68,7 +68,7 @@ pub trait TwoWayTable: Table {
     fn waiter(&self, job: usize, place: usize) -> Option<usize>
         ensures { result ≡ target_at (waiters (Self.Table.rows self.now) job) place }
     {
-        // not by `waiters`, which only a sized table has
+        // tried as a chain of `filter` and `nth`, whose proof did not close
         if place >= self.jobs() {
             return None;
         }

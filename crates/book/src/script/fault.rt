@@ -5,7 +5,7 @@ use crate::fault::BookFault;
 use detection::DetectionFault;
 
 // The faults of a script; those of the book and of the detection are carried whole.
-#[derive(Clone, Copy, Drop)]
+#[derive(Clone, Copy, Drop, PartialEq, Eq, Debug)]
 pub enum ScriptFault {
     TooLong,
     UnknownLetter,
@@ -17,7 +17,7 @@ pub enum ScriptFault {
 }
 
 // A script that a fault has ended: where the command begins and which one it is, and how many answer bytes stay written.
-#[derive(Clone, Copy, Drop)]
+#[derive(Clone, Copy, Drop, PartialEq, Eq, Debug)]
 pub struct StoppedScript {
     pub fault: ScriptFault,
     pub offset: usize,
@@ -26,7 +26,7 @@ pub struct StoppedScript {
 }
 
 // A script that came to its end: the commands carried out, the groups cancelled at the end, and the answer bytes written.
-#[derive(Clone, Copy, Drop)]
+#[derive(Clone, Copy, Drop, PartialEq, Eq, Debug)]
 pub struct FinishedScript {
     pub commands: usize,
     pub cancelled: usize,
