@@ -2,7 +2,7 @@
 use Rattle.std.proofs.Common.{◌≡◌, ℕ, zero, suc, ◌+◌, ◌<◌, Bool, true, List, [], ◌∷◌, ◌++◌, length, get_or, set, replicate, refl, subst, arith}
 use Rattle.std.proofs.lemmas.Bool.{and_from, and_parts}
 use Rattle.groups.specs.declared.store.Old.{Old}
-use Rattle.groups.specs.State.{State, old_row, noted, merged, unwound, restored, outside, fresh, written, opened, kept, cancelled}
+use Rattle.groups.specs.State.{State, old_row, noted, merged, unwound, restored, outside, fresh, written, kept, cancelled}
 use Rattle.groups.specs.Obeys.{rows_obey, olds_obey, groups_obey, Obeys}
 
 module _ {P : Type 0} (law : ℕ → P → Bool) where
@@ -69,9 +69,6 @@ module _ {P : Type 0} (law : ℕ → P → Bool) where
         put_obeys s.rows job row here o.0,
         noted_obeys s.groups (old_row s.rows job row) (subst (λ n. law n (get_or s.rows job row) ≡ true) e (obeyed_at 0 s.rows job row l o.0)) o.1,
       )
-
-  pub opened_obeys : (s : State P) → Obeys law s → Obeys law (opened s)
-  opened_obeys s o = o
 
   pub kept_obeys : (s : State P) → Obeys law s → Obeys law (kept s)
   kept_obeys s o = (o.0, merged_obeys s.groups o.1)

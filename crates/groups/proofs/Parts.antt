@@ -1,10 +1,9 @@
 -- The trail cut at the groups' starts, before and after each call.
 use Rattle.std.proofs.Common.{◌≡◌, ℕ, suc, ◌<◌, ◌≤◌, true, Option, Some, None, IsSome, List, [], ◌∷◌, ◌++◌, length, reverse, take, drop, sym, refl, ap, ◌∙◌, arith}
 use Rattle.std.proofs.lemmas.List.{drop-append-le, take-append-le, take-append-drop, take-take, length-take-le, length-drop, length_push, length-append, length-reverse, reverse-append}
-use Rattle.std.specs.Option.{option_to_list, unwrap_or}
+use Rattle.std.specs.Option.{option_to_list}
 use Rattle.std.proofs.lemmas.Bool.Decides.{nat_tests}
-use Rattle.groups.specs.declared.store.Old.{Old}
-use Rattle.groups.specs.State.{total, noted, merged, unwound, restored, outside}
+use Rattle.groups.specs.State.{total, noted, merged}
 use Rattle.groups.specs.Memory.{parts, tidy}
 
 tidy_within : (n s : ℕ) (ss : List ℕ) → tidy n (s ∷ ss) ≡ true → s ≤ n
@@ -44,11 +43,6 @@ module _ {X : Type 0} where
       let m : length xs ≤ length (xs ++ x ∷ []) = omega (arith, length_push xs x) in
       (tidy_longer (length xs) _ (s ∷ ss) p m t, ap (λ ys. ys ∷ parts (take s (xs ++ x ∷ [])) ss) (drop-append-le s xs (x ∷ []) l) ∙ ap (λ ys. (drop s xs ++ x ∷ []) ∷ parts ys ss) (take-append-le s xs (x ∷ []) l))
 
-  -- outside of groups none is noted
-  pub parts_outside : (xs : List X) (ss : List ℕ) (x : X) → length ss ≤ 0 → parts xs ss ≡ noted (parts xs ss) x
-  parts_outside xs [] x l = refl
-  parts_outside xs (s ∷ ss) x l = absurd (omega arith)
-
   drop_split : (xs : List X) (t s : ℕ) → t ≤ s → s ≤ length xs → drop t xs ≡ drop t (take s xs) ++ drop s xs
   drop_split xs t s l m =
       let n : t ≤ length (take s xs) = omega (arith, length-take-le s xs m) in
@@ -82,18 +76,3 @@ module _ {X : Type 0} where
       let r : reverse before ≡ s ∷ reverse after = ap reverse e ∙ reverse-append after (s ∷ []) in
       let n : 0 < length (reverse after) = omega (arith, length-reverse after) in
       rw r (merged_parts xs (reverse after) s n (rw r at t))
-
-  pub emptied_parts : (xs : List X) (before after : List ℕ) (x : Option ℕ) → before ≡ after ++ option_to_list x → length after ≡ 0 → merged (parts xs (reverse before)) ≡ []
-  emptied_parts xs before [] None e l = rw e
-  emptied_parts xs before [] (Some s) e l = rw e
-  emptied_parts xs before (a ∷ rest) x e l = absurd (omega arith)
-
--- the innermost group's records put back and freed
-pub cancelled_parts : {P : Type 0} (rows : List P) (xs : List (Old P)) (before after : List ℕ) (x : Option ℕ) → before ≡ after ++ option_to_list x → (0 < length before → IsSome x) → tidy (length xs) (reverse before) ≡ true → (tidy (length (take (unwrap_or x 0) xs)) (reverse after) ≡ true) × (unwound rows (drop (unwrap_or x 0) xs) ≡ restored rows (parts xs (reverse before))) × (parts (take (unwrap_or x 0) xs) (reverse after) ≡ outside (parts xs (reverse before)))
-cancelled_parts rows [] [] [] None e v t = (refl, refl, refl)
-cancelled_parts rows (x ∷ xs) [] [] None e v t = absurd (grind (arith, nat_tests))
-cancelled_parts rows xs (b ∷ bs) after None e v t = absurd (cc (v (omega arith)))
-cancelled_parts rows xs [] (a ∷ rest) None e v t = absurd (omega (arith, ap length e))
-cancelled_parts rows xs before after (Some s) e v t =
-    let r : reverse before ≡ s ∷ reverse after = ap reverse e ∙ reverse-append after (s ∷ []) in
-    rw r (tidy_front xs s (reverse after) (rw r at t), refl, refl)

@@ -5,7 +5,7 @@ use lib.Seq.{take-set-lt}
 use Rattle.std.proofs.lemmas.List.{map-set, map-append, length-map, length-set, length-take-le, get_or-take, take-set-le, set_past, take-replicate}
 use Rattle.std.proofs.lemmas.Bool.{cases_lt}
 use Rattle.groups.specs.declared.store.Old.{Old}
-use Rattle.groups.specs.State.{State, face, total, old_row, noted, merged, unwound, restored, outside, fresh, written, opened, kept, cancelled}
+use Rattle.groups.specs.State.{State, face, total, old_row, noted, merged, unwound, restored, outside, fresh, written, kept, cancelled}
 use Rattle.groups.specs.Views.{old_view, view}
 use Rattle.groups.proofs.Stepped.{same_state}
 
@@ -68,9 +68,6 @@ module _ {P Q : Type 0} (n : ℕ) (f : P → Q) where
   view_written s job row l h =
       same_state (set_view s.rows job row l) (noted_map (old_view f) s.groups (old_row s.rows job row) ∙ ap (noted (map (map (old_view f)) s.groups)) (old_row_view s.rows job row h)) refl refl
 
-  pub view_opened : (s : State P) → view n f (opened s) ≡ opened (view n f s)
-  view_opened s = refl
-
   pub view_kept : (s : State P) → view n f (kept s) ≡ kept (view n f s)
   view_kept s = same_state refl (merged_map (old_view f) s.groups) refl refl
 
@@ -86,6 +83,3 @@ module _ {P Q : Type 0} (n : ℕ) (f : P → Q) where
 
   pub view_used : (s : State P) → (face (view n f s)).used ≡ (face s).used
   view_used s = total_map (old_view f) s.groups
-
-  pub view_length : (s : State P) → n ≤ length s.rows → length (view n f s).rows ≡ n
-  view_length s l = length-map (take n s.rows) f ∙ length-take-le n s.rows l

@@ -199,9 +199,6 @@ pub record Passing (w₀ : Work) (job i : ℕ) (w : Work) : Type 0 where
   pub behind : SettledIn i (length w.rows) (at_hand w job)
   pub steps : steps_left w ≡ steps_left w₀
 
-pub pass_zero : (w : Work) (job : ℕ) → Marks w → Settled (at_hand w job) → Passing w job 0 w
-pass_zero w job b s = record { rows = refl; base = b; before = λ v a l m. absurd (omega arith); behind = s; steps = refl }
-
 -- the next job, where nothing is to be marked
 pub pass_next : (w₀ : Work) (job i : ℕ) (w : Work) → Passing w₀ job i w → (marked w.marks i ≡ false → count (done w.marks w.queue) (at w.rows i).targets < (at w.rows i).need) → Passing w₀ job (i + 1) w
 pass_next w₀ job i w p here = record {
@@ -280,9 +277,6 @@ pass_mark w₀ job i w p can =
       behind = λ v a b u. mark_settled (at_hand w job) i i (length w.rows) (job ∷ (w.queue ++ i ∷ [])) k can.unmarked (λ t. done_same w.marks (job ∷ w.queue) i t k can.unmarked) p.behind v (omega arith) b u;
       steps = mark_steps w i p.base can ∙ p.steps;
     }
-
-pub pass_settled : (w₀ : Work) (job i : ℕ) (w : Work) → length w.rows ≤ i → Passing w₀ job i w → Settled w
-pass_settled w₀ job i w l p v a b m = p.before v a (omega arith) m
 
 -- ---- the end
 

@@ -12,12 +12,6 @@ loop-job-init g c = record {
   started = start_first (g.T.Table.rows c.args.table.now) c.args.queue c.requires (omega (arith, c.jobs-job-end.ensures.value, c.jobs-job-end.ensures.bound));
 }
 
-pub loosen-requires : goal.loosen-requires
-loosen-requires g c =
-    let i = c.loop-job.invariant in
-    let l : c.loop-job.job < length c.loop-job.marking.rows = omega (arith, ap length i.rows, c.jobs-job-end.ensures.value, c.loop-job-test.true) in
-    start_can c.loop-job.marking c.loop-job.job l i.started (rw i.rows (sym c.need.ensures ∙ c.if-need-eq0.true))
-
 pub loop-job-preserved : goal.loop-job-preserved
 loop-job-preserved g c =
     let i = c.loop-job.invariant in

@@ -1,7 +1,7 @@
 use Rattle.std.proofs.Common.{sym, subst, arith}
 use Rattle.std.proofs.lemmas.Bool.Decides.{nat_tests}
 use Rattle.reduction.specs.Work.{CanBeMarked}
-use Rattle.reduction.proofs.Steps.{mark_base, queue_room_left}
+use Rattle.reduction.proofs.Steps.{queue_room_left}
 use Rattle.reduction.proofs.marking.Marking.loosen.Goals as goal
 
 pub unwrap-requires : goal.unwrap-requires
@@ -9,9 +9,3 @@ unwrap-requires g c =
     let can = subst (λ w. CanBeMarked w c.args.job) (sym c.self.view_is) c.requires in
     let room = queue_room_left _ c.args.job c.self.invariant.0 can in
     grind (arith, nat_tests)
-
-pub invariant_of-self : goal.invariant_of-self
-invariant_of-self g c =
-    let can = subst (λ w. CanBeMarked w c.args.job) (sym c.self.view_is) c.requires in
-    let base = mark_base _ c.args.job c.self.invariant.0 can in
-    rw (rw c.unwrap.ensures at c.put.ensures.after) (base, c.self.invariant.1)
