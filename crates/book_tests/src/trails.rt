@@ -23,7 +23,7 @@ fn group_takes_as_many_edits_as_records(rt: HostRuntime) -> Result<(), Fail> {
                 assert_eq!(rt; turned(&mut book), 0);
             }
             let ticket = opened(&mut book)?;
-            // asserted after the group has ended
+            // asserted after the group has ended, since its ticket must be handed back on every way out
             let mut taken = true;
             for _ in 0..records {
                 taken = turned(&mut book) == 0 && taken;

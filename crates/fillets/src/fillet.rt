@@ -4,7 +4,7 @@ ghost use Rattle.fillets.specs.declared.fillet.FilletFault.TheVariants.{InBook};
 
 use book::{BookFault, RefusedEnding};
 
-// A fillet waits for both faces at its edge.
+// A fillet waits for both faces at its edge: a count, and no code.
 pub const FACES: u8 = 2;
 
 // The edge is too thin for it, or the book refuses a call.
