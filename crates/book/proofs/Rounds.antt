@@ -8,7 +8,7 @@ use Rattle.groups.proofs.Stepped.{same_state}
 use Rattle.book.specs.declared.fault.BookFault.TheVariants.{TooDeep}
 use Rattle.book.specs.Calls.{Edit, edits, opens, keeps, cancels, job_of, next_row, changed}
 use Rattle.book.specs.History.{Called}
-use Rattle.book.specs.Answers.{Answer, done, ticket, returned, stop, accepted, says, after}
+use Rattle.book.specs.Answers.{Answer, ticket, stop, accepted, says, after}
 
 -- what an opening that gives a ticket says of it, and does
 ticket_given : (s : State Waiting) (m d : ℕ) → ticket m d ≡ says s opens → (m ≡ s.mark) × (d ≡ (face s).depth + 1) × (after s opens ≡ opened s)
@@ -40,12 +40,6 @@ fits_still s e m d p q =
     let b : eqb d (face (after (opened s) (edits e))).depth ≡ true = eq-eqb _ _ (q ∙ sym (edited_depth s e)) in
     let c : ltb 0 d ≡ true = lt-ltb _ _ (omega (arith, q)) in
     rw (a, b, c)
-
-keep_told : (s : State Waiting) (e : Edit) (m d : ℕ) → m ≡ s.mark → d ≡ (face s).depth + 1 → says (after (opened s) (edits e)) (keeps m d) ≡ done
-keep_told s e m d p q = rw (fits_still s e m d p q)
-
-cancel_told : (s : State Waiting) (e : Edit) (m d : ℕ) → m ≡ s.mark → d ≡ (face s).depth + 1 → says (after (opened s) (edits e)) (cancels m d) ≡ done
-cancel_told s e m d p q = rw (fits_still s e m d p q)
 
 cancelled_round : (s : State Waiting) (e : Edit) (m d : ℕ) → m ≡ s.mark → d ≡ (face s).depth + 1 → after (after (opened s) (edits e)) (cancels m d) ≡ s
 cancelled_round s e m d p q = rw (fits_still s e m d p q) (go (accepted (says (opened s) (edits e))))
@@ -87,10 +81,3 @@ module _ {s s₁ s₂ : State Waiting} {m d : ℕ} {e : Edit} {a : Answer} (firs
       ∙ ap (λ v. after v (keeps m d)) edited
       ∙ kept_round s e m d given.0 given.1
       ∙ ap (λ v. cond (accepted v) (changed s (edits e)) s) (sym (second.value ∙ ap (λ v. says v (edits e)) (first.after ∙ given.2)))
-
-  -- the ticket is not refused
-  pub cancel_taken : {n i j : ℕ} {s₃ : State Waiting} → Called s₂ (cancels m d) (returned n i j) s₃ → ⊥
-  cancel_taken third = cc (third.value ∙ ap (λ v. says v (cancels m d)) edited ∙ cancel_told s e m d given.0 given.1)
-
-  pub keep_taken : {n i j : ℕ} {s₃ : State Waiting} → Called s₂ (keeps m d) (returned n i j) s₃ → ⊥
-  keep_taken third = cc (third.value ∙ ap (λ v. says v (keeps m d)) edited ∙ keep_told s e m d given.0 given.1)

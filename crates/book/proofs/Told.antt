@@ -169,10 +169,6 @@ placed_is false None w v e = cc
 placed_is false (Some place) w v e = absurd (cc e)
 
 module _ (s : State Waiting) (n : ℕ) (jobs : n ≡ length s.rows) where
-  -- whether all that is left to ask is the trail
-  abbrev Passes : Edit → Type 0
-  Passes e = says s (edits e) ≡ cond (full s.room (face s)) (stop TrailFull) done
-
   refused : (e : Edit) (fault : BookFault) → stop fault ≡ says s (edits e) → Called s (edits e) (stop fault) s
   refused e fault p = stopped_called s e (stop fault) fault refl p
 

@@ -1,7 +1,7 @@
 -- The acts of a job that are made of two: an active job spreads, and a GRANT frees its waiter.
-use Rattle.std.proofs.Common.{◌≡◌, ℕ, ◌+◌, ◌<◌, ◌≤◌, Bool, false, cond, not, ◌&&◌, eqb, List, [], ◌∷◌, ◌++◌, length, sym, ap, ◌∙◌, subst, arith}
+use Rattle.std.proofs.Common.{◌≡◌, ℕ, ◌+◌, ◌<◌, Bool, false, cond, not, ◌&&◌, eqb, List, [], ◌∷◌, ◌++◌, length, sym, ap, ◌∙◌, subst, arith}
 use Rattle.std.proofs.lemmas.List.{length-append}
-use Rattle.std.proofs.lemmas.Bool.{eq-eqb, cond-true, cond_both}
+use Rattle.std.proofs.lemmas.Bool.{eq-eqb, cond-true}
 use Rattle.carriers.specs.declared.message.Kind.{Kind}
 use Rattle.carriers.specs.declared.message.Kind.TheVariants.{Grant, Ack}
 use Rattle.carriers.specs.declared.message.Wait.{Wait}
@@ -20,13 +20,6 @@ use Rattle.detection.proofs.Few.{targets_are_few}
 
 -- An active job that spreads notifies all, and then lets go.
 module _ (rows : List Waiting) (j : ℕ) (r : RunRecord) where
-  pub spread_puts_each_notify : length (notifies rows j) ≤ length (spread rows j r).puts
-  spread_puts_each_notify =
-      cond_both (is_active rows j) (and_then (notify_all rows j r) (let_go rows j)) (notify_all rows j r)
-      (λ (a : Act). length (notifies rows j) ≤ length a.puts)
-      (λ e. omega (arith, length-append (notifies rows j) (grants rows j)))
-      (λ e. omega arith)
-
   pub active_job_lets_go : (at rows j).need ≡ 0 → spread rows j r ≡ and_then (notify_all rows j r) (let_go rows j)
   active_job_lets_go active =
       cond-true (is_active rows j) (and_then (notify_all rows j r) (let_go rows j)) (notify_all rows j r) (eq-eqb (at rows j).need 0 active)

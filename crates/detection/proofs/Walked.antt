@@ -1,6 +1,6 @@
 -- Sending a message for each number of a list, one after the other.
 use Rattle.std.proofs.Common.{◌≡◌, ℕ, ◌+◌, ◌<◌, true, eqb, List, [], ◌∷◌, ◌++◌, map, length, refl, sym, ap, ◌∙◌, subst, arith}
-use Rattle.std.proofs.lemmas.List.{map_push, length-map, length-append, length_push, append-nil, append_assoc}
+use Rattle.std.proofs.lemmas.List.{map_push, length-map, length-append, length_push, append_assoc}
 use Rattle.std.proofs.lemmas.Bool.{eq-eqb, or_right}
 use Rattle.rows.specs.Waiting.{among}
 use Rattle.carriers.specs.Meaning.{Carried, Sent}
@@ -48,14 +48,4 @@ module _ {f : ℕ → Message} {xs left : List ℕ} {count : ℕ} {before after 
       counted = omega (arith, walked.counted, length_push walked.front x);
       sent = rw map_push (sent_more before after last (map f walked.front) (f x ∷ []) walked.sent sent);
     }
-
-  -- Where no number is left, all were sent.
-  module _ (none : left ≡ []) where
-    front_is_whole : walked.front ≡ xs
-    front_is_whole = sym (append-nil walked.front) ∙ ap (λ (ns : List ℕ). walked.front ++ ns) (sym none) ∙ walked.all
-
-    pub whole_list_is_counted : count ≡ length xs
-    whole_list_is_counted = walked.counted ∙ ap length front_is_whole
-
-    pub whole_list_is_sent : Sent before after (map f xs)
-    whole_list_is_sent = subst (λ (ns : List ℕ). Sent before after (map f ns)) front_is_whole walked.sent
+    -- Where no number is left, all were sent.

@@ -1,7 +1,7 @@
 -- From row to row.
 use Rattle.std.proofs.Common.{◌∙◌, arith}
 use Rattle.detection.specs.Asked.{Tabled}
-use Rattle.detection.proofs.Few.{waits_with_one_row_more, waits_of_all_rows, targets_are_few, first_rows_have_few_waits, waits_are_few}
+use Rattle.detection.proofs.Few.{waits_of_all_rows, targets_are_few, first_rows_have_few_waits, waits_are_few}
 use Rattle.detection.proofs.detector.waits.Given as given
 use Rattle.detection.proofs.detector.waits.Goals as goal
 use Rattle.detection.proofs.detector.waits.Goals.{After-jobs-job-end}
@@ -14,11 +14,6 @@ overflow_add-waits g c =
     let rows = g.T.Table.rows c.args.table.now in
     let table = tabled g (goal.at.overflow_add-waits g c).After-jobs-job-end in
     omega (arith, targets_are_few rows table c.loop-job.job, first_rows_have_few_waits rows table c.loop-job.job, c.jobs-job-end.ensures.bound)
-
-pub loop-job-preserved : goal.loop-job-preserved
-loop-job-preserved g c =
-    let rows = g.T.Table.rows c.args.table.now in
-    omega (arith, waits_with_one_row_more rows c.loop-job.job (omega (arith, c.jobs-job-end.ensures.value)))
 
 pub returns : goal.returns
 returns g c =

@@ -3,11 +3,8 @@ use Rattle.std.proofs.Common.{sym, ◌∙◌, arith}
 use Rattle.tables.proofs.Laws.{who_waits_is_a_job}
 use Rattle.tables.proofs.Waiters.{waiters_are_who_waits}
 use Rattle.detection.proofs.Few.{waiters_are_few}
-use Rattle.detection.proofs.Walked.{none_is_sent_at_first, next_is_within, next_is_among, next_has_room, next_is_sent_too, whole_list_is_counted, whole_list_is_sent}
+use Rattle.detection.proofs.Walked.{next_is_within, next_is_among, next_has_room, next_is_sent_too}
 use Rattle.detection.proofs.puts.send_grants.Goals as goal
-
-pub loop-waiter-init : goal.loop-waiter-init
-loop-waiter-init g c = none_is_sent_at_first (rw c.into_iter-waiter-iterator.ensures.into_iter_gives c.waiters-waiter-items.ensures)
 
 pub overflow_cast-wait : goal.overflow_cast-wait
 overflow_cast-wait g c =
@@ -26,9 +23,3 @@ overflow_add-count g c =
 
 pub loop-waiter-preserved : goal.loop-waiter-preserved
 loop-waiter-preserved g c = next_is_sent_too c.loop-waiter.invariant c.in-Some.ensures.steps c.send.ensures
-
-pub returns-clause-count : goal.returns-clause-count
-returns-clause-count g c = whole_list_is_counted c.loop-waiter.invariant c.in-None.ensures.steps.0
-
-pub returns-clause-sent : goal.returns-clause-sent
-returns-clause-sent g c = whole_list_is_sent c.loop-waiter.invariant c.in-None.ensures.steps.0

@@ -1,7 +1,7 @@
 -- From target to target.
 use Rattle.std.proofs.Common.{arith}
 use Rattle.detection.proofs.Few.{targets_are_few}
-use Rattle.detection.proofs.Walked.{none_is_sent_at_first, next_is_within, next_has_room, next_is_sent_too, whole_list_is_counted, whole_list_is_sent}
+use Rattle.detection.proofs.Walked.{none_is_sent_at_first, next_is_within, next_has_room, next_is_sent_too}
 use Rattle.detection.proofs.puts.send_notifies.Goals as goal
 
 pub loop-target-init : goal.loop-target-init
@@ -17,9 +17,3 @@ overflow_add-count g c =
 
 pub loop-target-preserved : goal.loop-target-preserved
 loop-target-preserved g c = next_is_sent_too c.loop-target.invariant c.in-Some.ensures.steps c.send.ensures
-
-pub returns-clause-count : goal.returns-clause-count
-returns-clause-count g c = whole_list_is_counted c.loop-target.invariant c.in-None.ensures.steps.0
-
-pub returns-clause-sent : goal.returns-clause-sent
-returns-clause-sent g c = whole_list_is_sent c.loop-target.invariant c.in-None.ensures.steps.0

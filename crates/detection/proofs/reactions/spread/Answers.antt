@@ -5,18 +5,13 @@ use Rattle.carriers.proofs.Sends.{sent_more, length-sent}
 use Rattle.rows.specs.Waiting.{at}
 use Rattle.exchange.specs.Messages.{notifies, grants}
 use Rattle.exchange.specs.Rules.{Act}
-use Rattle.detection.proofs.Acts.{spread_puts_each_notify, active_job_lets_go, active_job_puts_both}
+use Rattle.detection.proofs.Acts.{active_job_lets_go, active_job_puts_both}
 use Rattle.detection.proofs.reactions.spread.Given as given
 use Rattle.detection.proofs.reactions.spread.Goals as goal
 use Rattle.detection.proofs.reactions.spread.Goals.{Then-need-eq0}
 
 active : (g : given.Over) (c : Then-need-eq0 g) → (at (g.T.Table.rows c.args.table.now.table.now) c.args.job).need ≡ 0
 active g c = sym c.requires.need ∙ c.if-need-eq0.true
-
-pub send_notifies-own-requires : goal.send_notifies-own-requires
-send_notifies-own-requires g c =
-    let rows = g.T.Table.rows c.args.table.now.table.now in
-    record { room = omega (arith, spread_puts_each_notify rows c.args.job c.args.own.now, c.requires.room) }
 
 pub release-requires : goal.release-requires
 release-requires g c =
