@@ -1,11 +1,13 @@
 // A day of regeneration, worked from beginning to end.
 #![tactic(auto)]
 
+mod detector;
 mod edits;
 mod names;
 mod show;
 mod trouble;
 
+use crate::detector::ask_about_output;
 use crate::edits::{ask, grant};
 use crate::names::{JOBS, Job};
 use crate::trouble::Trouble;
@@ -92,20 +94,28 @@ fn later_group(rt: &HostRuntime, book: &mut Book) -> Result<(), Trouble> {
     Ok(())
 }
 
-// A careless edit: two views that wait for each other.
+// A careless edit: three views that wait in a circle. The sheet can get no more than one of its four views.
 fn views_in_a_circle(rt: &HostRuntime, book: &mut Book) -> Result<(), Trouble> {
+    ask(rt, book, Job::SideView, 1, &[Job::TopView])?;
     ask(rt, book, Job::TopView, 1, &[Job::SectionView])?;
-    ask(rt, book, Job::SectionView, 1, &[Job::TopView])?;
+    ask(
+        rt,
+        book,
+        Job::SectionView,
+        2,
+        &[Job::SideView, Job::TopView],
+    )?;
     println!(rt; "what waits inside the group:")?;
-    show::waiting(rt, book)
+    show::waiting(rt, book)?;
+    ask_about_output(rt, book)
 }
 
-// The careless edit in a group of its own, which is cancelled when the reduction finds jobs stuck.
+// The careless edit in a group of its own, which is cancelled, since the sheet is stuck in it; then the sheet is only slow again.
 fn careless_group(rt: &HostRuntime, book: &mut Book) -> Result<(), Trouble> {
-    println!(rt; "a group is opened for two views")?;
+    println!(rt; "a group is opened for three views")?;
     in_group(rt, book, views_in_a_circle, Book::cancel)?;
-    println!(rt; "the group is cancelled: the views would never be done")?;
-    Ok(())
+    println!(rt; "the group is cancelled: the sheet would never be done")?;
+    ask_about_output(rt, book)
 }
 
 // Faces, meshes and views are done one after the other.

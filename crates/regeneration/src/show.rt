@@ -1,4 +1,4 @@
-// Rows as lines of text, with the reduction's word.
+// Rows as lines of text, and the words for stuck and slow.
 use crate::names::{JOBS, Job, name_of};
 use crate::trouble::Trouble;
 use book::Book;
@@ -21,14 +21,19 @@ pub fn row(rt: &HostRuntime, book: &Book, job: Job) -> io::Result<()> {
     Ok(())
 }
 
-// The jobs that wait, each with the word of the reduction: stuck, or only slow.
+// How it is said that a job is stuck, or that it is not.
+pub fn word(stuck: bool) -> &'static str {
+    if stuck { "stuck" } else { "only slow" }
+}
+
+// The jobs that wait, each with the word of the reduction.
 pub fn waiting(rt: &HostRuntime, book: &Book) -> Result<(), Trouble> {
     let mut marks = [0; JOBS];
     reduce(book, &mut marks)?;
     for (job, mark) in Job::ALL.iter().zip(marks) {
         if book.need(*job as usize) > 0 {
             let name = job.name();
-            let word = if mark == HELD { "stuck" } else { "slow" };
+            let word = word(mark == HELD);
             print!(rt; "  {name}: ")?;
             row(rt, book, *job)?;
             println!(rt; " ({word})")?;

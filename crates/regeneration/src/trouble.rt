@@ -1,10 +1,11 @@
 // What can end the day early.
 use book::{BookFault, RefusedEnding};
+use detection::DetectionFault;
 use reduction::ReductionFault;
 use std::io;
 use thiserror::Error;
 
-// Nothing can be printed, or the book or the reduction refuses a call.
+// Nothing can be printed, or the book, the reduction or the detection refuses a call.
 #[derive(Debug, Drop, Error)]
 pub enum Trouble {
     #[error("a line can't be printed")]
@@ -13,6 +14,8 @@ pub enum Trouble {
     Refused(#[from] BookFault),
     #[error("the reduction refuses a call")]
     NotReduced(#[from] ReductionFault),
+    #[error("the detection refuses a call")]
+    NotDetected(#[from] DetectionFault),
 }
 
 // A ticket that is refused is given up; the fault goes on. No derive gives a ticket up.
