@@ -3,6 +3,7 @@ use book::{Book, Old, PlainRow};
 use carriers::{Carrier, Kind, Message, Picker, QueueCarrier, StackCarrier, Wait};
 use detection::{Detection, RunRecord, Verdict, detect};
 use std::process::Abort;
+use std::test::Fail;
 
 // Room for two messages on each wait of the largest of these books.
 const CELLS: usize = 10;
@@ -58,27 +59,42 @@ fn answers<C: Carrier>(rt: &impl Abort, book: &Book, carrier: &mut C, expected: 
     assert_eq!(rt; records[RECORDS - 1].granted, UNTOUCHED);
 }
 
-// The book with these rows answers as expected over a queue, a stack and a picker.
-fn comes_out(rt: &impl Abort, jobs: usize, rows: &[Row], expected: Expected) {
-    let mut memory = [Old {
-        job: 0,
-        row: PlainRow::idle(),
-    }; 1];
-    let mut book = Book::new(jobs, 7, &mut memory);
-    for row in rows {
-        assert!(rt; book.request(row.job, row.need, row.targets).is_ok());
-    }
+// A detection answers as expected over a queue, a stack and a picker.
+fn answers_over_each(rt: &impl Abort, book: &Book, expected: Expected) {
     let mut cells = [empty_message(); CELLS];
-    answers(rt, &book, &mut QueueCarrier::new(&mut cells), expected);
+    answers(rt, book, &mut QueueCarrier::new(&mut cells), expected);
     let mut cells = [empty_message(); CELLS];
-    answers(rt, &book, &mut StackCarrier::new(&mut cells), expected);
+    answers(rt, book, &mut StackCarrier::new(&mut cells), expected);
     let mut cells = [empty_message(); CELLS];
     answers(
         rt,
-        &book,
+        book,
         &mut Picker::new(&mut cells, &[3, 1, 4, 1, 5, 9, 2, 6]),
         expected,
     );
+}
+
+// Memory for a trail of one old row.
+fn trail() -> [Old<PlainRow>; 1] {
+    [Old {
+        job: 0,
+        row: PlainRow::idle(),
+    }; 1]
+}
+
+// Active jobs come to have these rows.
+fn request_each(rt: &impl Abort, book: &mut Book, rows: &[Row]) {
+    for row in rows {
+        assert!(rt; book.request(row.job, row.need, row.targets).is_ok());
+    }
+}
+
+// The book with these rows answers as expected over each carrier.
+fn comes_out(rt: &impl Abort, jobs: usize, rows: &[Row], expected: Expected) {
+    let mut memory = trail();
+    let mut book = Book::new(jobs, 7, &mut memory);
+    request_each(rt, &mut book, rows);
+    answers_over_each(rt, &book, expected);
 }
 
 fn needs(job: usize, need: u8, targets: &[u8]) -> Row {
@@ -131,4 +147,42 @@ fn three_and_four_jobs(rt: HostRuntime) {
         needs(3, 1, &[0]),
     ];
     comes_out(&rt, 4, &b7, stuck(0, 16));
+}
+
+// In B2, job 1 comes to wait for job 0 in a group that is then cancelled: inside it is B3, and after it B2 again.
+#[test]
+fn a_cancelled_request(rt: HostRuntime) -> Result<(), Fail> {
+    let mut memory = trail();
+    let mut book = Book::new(2, 7, &mut memory);
+    request_each(&rt, &mut book, &[needs(0, 1, &[1])]);
+    let ticket = book.open().map_err(|_| Fail::new("no group was opened"))?;
+    request_each(&rt, &mut book, &[needs(1, 1, &[0])]);
+    answers_over_each(&rt, &book, stuck(0, 4));
+    let cancelled = book
+        .cancel(ticket)
+        .map_or_else(|refused| refused.give_up().number(), |()| 0);
+    assert_eq!(rt; cancelled, 0);
+    answers_over_each(&rt, &book, free(0, 4));
+    answers_over_each(&rt, &book, free(1, 2));
+    Ok(())
+}
+
+// A grant in B2: one makes job 0 active, and two are refused and leave B2.
+#[test]
+fn grants(rt: HostRuntime) {
+    // the granter, the waiter, the number of the refusal or 0, and what a detection answers then
+    for (granter, waiter, number, expected) in [
+        (1, 0, 0, free(0, 0)),
+        (0, 1, 6, free(0, 4)),
+        (1, 1, 7, free(0, 4)),
+    ] {
+        let mut memory = trail();
+        let mut book = Book::new(2, 7, &mut memory);
+        request_each(&rt, &mut book, &[needs(0, 1, &[1])]);
+        let granted = book
+            .grant(granter, waiter)
+            .map_or_else(|fault| fault.number(), |()| 0);
+        assert_eq!(rt; granted, number);
+        answers_over_each(&rt, &book, expected);
+    }
 }
