@@ -12,7 +12,7 @@ use Rattle.book.specs.Answers.{Answer, accepted, answer, says, after}
 use Rattle.book.specs.History.{answers, counted, fed, terms, Shows, Follows, Called}
 
 -- no call changes the number of jobs
-length-changed : (s : State Waiting) (c : Call) → length (changed s c).rows ≡ length s.rows
+pub length-changed : (s : State Waiting) (c : Call) → length (changed s c).rows ≡ length s.rows
 length-changed s (edits e) = length-set s.rows (job_of e) (next_row s.rows e)
 length-changed s opens = refl
 length-changed s (keeps mark depth) = refl
@@ -24,10 +24,10 @@ changed_shows first s opens h w = open_shows job_of next_row first s h w
 changed_shows first s (keeps mark depth) h w = keep_shows job_of next_row first s h w
 changed_shows first s (cancels mark depth) h w = cancel_shows job_of next_row first s h w
 
-says_answers : (s : State Waiting) (c : Call) (h : History Edit) → Shows s h → says s c ≡ answers (terms s) h c
+pub says_answers : (s : State Waiting) (c : Call) (h : History Edit) → Shows s h → says s c ≡ answers (terms s) h c
 says_answers s c h w = ap (λ f. answer s.mark s.room f c) (shows_face job_of next_row (replicate (length s.rows) idle) s h w)
 
-after_shows : (s : State Waiting) (c : Call) (h : History Edit) → Shows s h → Shows (after s c) (fed (terms s) h c)
+pub after_shows : (s : State Waiting) (c : Call) (h : History Edit) → Shows s h → Shows (after s c) (fed (terms s) h c)
 after_shows s c h w = go (accepted (says s c)) (accepted (answers (terms s) h c)) (ap accepted (says_answers s c h w))
   where
     go : (a b : Bool) → a ≡ b → Shows (cond a (changed s c) s) (cond b (counted h c) h)

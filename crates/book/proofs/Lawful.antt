@@ -6,6 +6,9 @@ use Rattle.rows.specs.Law.{sound, row_fits}
 use Rattle.rows.specs.Views.{waiting, plain_fits}
 use Rattle.rows.specs.Waiting.{idle}
 use Rattle.rows.proofs.Laws.{idle_fits, sound_fits}
+use Rattle.groups.specs.declared.store.Ending.{Ending}
+use Rattle.groups.specs.declared.store.Ending.TheVariants.{Keep, Cancel}
+use Rattle.groups.specs.Tickets.{ended_as}
 use Rattle.groups.specs.State.{State, fresh, written, kept, cancelled}
 use Rattle.groups.specs.Obeys.{Obeys}
 use Rattle.groups.proofs.Obeyed.{fresh_obeys, written_obeys, kept_obeys, cancelled_obeys}
@@ -28,6 +31,10 @@ module _ (n : ℕ) (s : State PlainRow) (l : Lawful n s) where
 
   pub cancelled_lawful : Lawful n (cancelled s)
   cancelled_lawful = lawful_still n s (cancelled s) l (length-restored s.rows s.groups) (cancelled_obeys (plain_fits n) s)
+
+  pub ended_lawful : (e : Ending) → Lawful n (ended_as e s)
+  ended_lawful Keep = kept_lawful
+  ended_lawful Cancel = cancelled_lawful
 
   -- whichever of two states
   pub lawful_if : (q : Bool) (t : State PlainRow) → Lawful n t → Lawful n (cond q t s)

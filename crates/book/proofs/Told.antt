@@ -12,9 +12,12 @@ use Rattle.rows.proofs.Laws.{sound_fits, grant_fits}
 use Rattle.rows.specs.Waiting.{Waiting, at, among}
 use Rattle.rows.specs.Changes.{wrong_counts, first_wrong, granted}
 use Rattle.rows.specs.Views.{StoredWhole, waiting, waiting_of, seen_some, placed, requested, granted_by}
+use Rattle.groups.specs.declared.store.Ending.{Ending}
+use Rattle.groups.specs.declared.store.Ending.TheVariants.{Keep, Cancel}
+use Rattle.groups.specs.declared.store.Stub.{Stub}
 use Rattle.groups.specs.declared.store.Ticket.{Ticket}
 use Rattle.groups.specs.declared.store.Returned.{Returned}
-use Rattle.groups.specs.Tickets.{fits, ended}
+use Rattle.groups.specs.Tickets.{fits, ended, ended_as}
 use Rattle.groups.specs.Views.{view}
 use Rattle.groups.proofs.Viewed.{view_written, view_kept, view_cancelled, view_depth, view_used}
 use Rattle.groups.specs.State.{State, Face, face, full, innermost, written, opened, kept, cancelled}
@@ -22,9 +25,9 @@ use Rattle.book.specs.declared.fault.BookFault.{BookFault}
 use Rattle.book.specs.declared.fault.RefusedEnding.{RefusedEnding}
 use Rattle.book.specs.declared.fault.BookFault.TheVariants.{NoSuchJob, Blocked, WrongCounts, TrailFull, GranterBlocked, NoSuchWait, TooDeep, NotInnermost}
 use Rattle.book.specs.Faults.{number, of_row, of_returned}
-use Rattle.book.specs.Calls.{Edit, Call, requests, grants, edits, opens, keeps, cancels, job_of, next_row, changed}
+use Rattle.book.specs.Calls.{Edit, Call, requests, grants, edits, opens, keeps, cancels, ends, job_of, next_row, changed}
 use Rattle.book.specs.Answers.{Answer, done, ticket, returned, stop, stop_at, accepted, says}
-use Rattle.book.specs.Views.{told, told_opening, told_ending}
+use Rattle.book.specs.Views.{told, told_opening, told_ending, told_stub}
 use Rattle.book.specs.History.{Called}
 use Rattle.book.specs.Memory.{Lawful}
 use Rattle.book.proofs.Following.{called}
@@ -61,6 +64,10 @@ open_told : (q : Bool) (m d d' : ℕ) → d ≡ d' → told_opening (ok_or (cond
 open_told true m d d' f = ap (λ n. ticket m (n + 1)) f
 open_told false m d d' f = refl
 
+stub_told : (q : Bool) (m d : ℕ) → told_stub (ok_or (cond {A = Option Stub} q (Some (record { mark = m; depth = d })) None) TooDeep) ≡ told_opening (ok_or (cond {A = Option Ticket} q (Some (record { mark = m; depth = d })) None) TooDeep)
+stub_told true m d = refl
+stub_told false m d = refl
+
 -- an ending's answer, by the ticket that comes back or does not
 abbrev pub told_return : Result (Unit {0}) Returned → Answer
 told_return (Ok u) = done
@@ -84,6 +91,10 @@ module _ (n : ℕ) (s t : State PlainRow) where
       (ap (λ o. told_opening (ok_or o TooDeep)) e ∙ open_told q s.mark (face s).depth (face (view n waiting s)).depth (sym d))
       (ap (view n waiting) f ∙ view_if n q (opened s) s)
 
+  -- the same without a ticket
+  pub open_stub_called : (r : Option Stub) → r ≡ cond (ltb (face s).depth 8) (Some (record { mark = s.mark; depth = (face s).depth + 1 })) None → t ≡ cond (ltb (face s).depth 8) (opened s) s → Called (view n waiting s) opens (told_stub (ok_or r TooDeep)) (view n waiting t)
+  open_stub_called r e f = rw (e, stub_told (ltb (face s).depth 8) s.mark ((face s).depth + 1)) (open_called _ refl f)
+
   pub keep_called : (k : Ticket) (r : Result (Unit {0}) Returned) (a : Answer) → r ≡ ended s k → t ≡ cond (fits s k) (kept s) s → a ≡ told_return r → Called (view n waiting s) (keeps k.mark k.depth) a (view n waiting t)
   keep_called k r a e f g =
       by_test (view n waiting s) (view n waiting t) (view n waiting (kept s)) (keeps k.mark k.depth) a done (returned (number NotInnermost) k.mark k.depth) _ (fits s k) refl refl refl (fits_seen n s k) (sym (view_kept n waiting s))
@@ -95,6 +106,20 @@ module _ (n : ℕ) (s t : State PlainRow) where
       by_test (view n waiting s) (view n waiting t) (view n waiting (cancelled s)) (cancels k.mark k.depth) a done (returned (number NotInnermost) k.mark k.depth) _ (fits s k) refl refl refl (fits_seen n s k) (sym (view_cancelled n waiting s l))
       (g ∙ ap told_return e ∙ end_told (fits s k) k)
       (ap (view n waiting) f ∙ view_if n (fits s k) (cancelled s) s)
+
+  -- an ending without a ticket
+  pub end_called : n ≤ length s.rows → (e : Ending) (k : Stub) (a : Answer) → (b : Bool) → b ≡ innermost s.mark (face s) k.mark k.depth → t ≡ cond (innermost s.mark (face s) k.mark k.depth) (ended_as e s) s → a ≡ cond b done (returned (number NotInnermost) k.mark k.depth) → Called (view n waiting s) (ends e k.mark k.depth) a (view n waiting t)
+  end_called l e k a b h f g = go e f
+    where
+      ticket_of : Ticket
+      ticket_of = record { mark = k.mark; depth = k.depth }
+
+      told_so : a ≡ told_return (ended s ticket_of)
+      told_so = g ∙ ap (λ q. cond q done (returned (number NotInnermost) k.mark k.depth)) h ∙ sym (end_told (fits s ticket_of) ticket_of)
+
+      go : (e : Ending) → t ≡ cond (innermost s.mark (face s) k.mark k.depth) (ended_as e s) s → Called (view n waiting s) (ends e k.mark k.depth) a (view n waiting t)
+      go Keep p = keep_called ticket_of _ a refl p told_so
+      go Cancel p = cancel_called l ticket_of _ a refl p told_so
 
 -- ---- edits
 

@@ -1,7 +1,9 @@
 -- The calls of a book, and what an accepted one changes.
-use Rattle.std.specs.Prelude.{ℕ, Bool, true, false, List}
+use Rattle.std.specs.Prelude.{ℕ, List}
 use Rattle.rows.specs.Waiting.{Waiting, at}
 use Rattle.rows.specs.Changes.{granted}
+use Rattle.groups.specs.declared.store.Ending.{Ending}
+use Rattle.groups.specs.declared.store.Ending.TheVariants.{Keep, Cancel}
 use Rattle.groups.specs.State.{State, written, opened, kept, cancelled}
 
 -- A call that writes one row: a request by `job`, or a grant from `granter` to `waiter`.
@@ -17,9 +19,9 @@ pub data Call : Type 0 where
   cancels : (mark depth : ℕ) → Call
 
 -- An ending, which keeps the innermost group or cancels it.
-abbrev pub ends : (keeping : Bool) (mark depth : ℕ) → Call
-ends true mark depth = keeps mark depth
-ends false mark depth = cancels mark depth
+abbrev pub ends : Ending → (mark depth : ℕ) → Call
+ends Keep mark depth = keeps mark depth
+ends Cancel mark depth = cancels mark depth
 
 -- The job whose row an edit writes.
 abbrev pub job_of : Edit → ℕ

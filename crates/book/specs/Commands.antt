@@ -1,12 +1,14 @@
 -- Scripts as bytes: which command stands at the head of those unread.
-use Rattle.std.specs.Prelude.{ℕ, ◌+◌, Bool, true, false, cond, List, [], ◌∷◌, length, take, ◌==◌, nat_le}
+use Rattle.std.specs.Prelude.{ℕ, ◌+◌, cond, List, [], ◌∷◌, length, take, ◌==◌, nat_le}
+use Rattle.groups.specs.declared.store.Ending.{Ending}
+use Rattle.groups.specs.declared.store.Ending.TheVariants.{Keep, Cancel}
 use Rattle.book.specs.Calls.{Edit, requests, grants}
 
 -- A command: an edit, an opening, an ending, a detection.
 pub data Command : Type 0 where
   makes : Edit → Command
   opening : Command
-  ending : (keeping : Bool) → Command
+  ending : Ending → Command
   detecting : (job : ℕ) → Command
 
 -- No byte is left; the first is no command's letter; the bytes end inside the command; or a whole command, and its length.
@@ -39,7 +41,7 @@ head (letter ∷ operands) =
     cond (letter == 82) (request_head operands)
     (cond (letter == 71) (grant_head operands)
     (cond (letter == 79) (whole opening 1)
-    (cond (letter == 75) (whole (ending true) 1)
-    (cond (letter == 67) (whole (ending false) 1)
+    (cond (letter == 75) (whole (ending Keep) 1)
+    (cond (letter == 67) (whole (ending Cancel) 1)
     (cond (letter == 68) (detection_head operands)
     unknown)))))

@@ -10,3 +10,6 @@ pub mod Lent
 pub mod Commands
 pub mod ScriptFaults
 pub mod Scripts
+pub mod Reading
+pub mod Working
+pub mod ScriptRuns

@@ -1,20 +1,22 @@
 -- What a script does: its commands one after the other, to the first fault or to the end; and then its open groups are cancelled.
-use Rattle.std.specs.Prelude.{◌≡◌, ℕ, zero, suc, ◌+◌, ◌-◌, ◌/◌, ◌%◌, ◌<◌, ◌≤◌, Bool, List, [], ◌∷◌, ◌++◌, length, take, drop, Some, None, Ok, Err, MatchBool, Option, Result, nat_lt}
+use Rattle.std.specs.Prelude.{◌≡◌, ℕ, zero, suc, ◌+◌, ◌-◌, ◌/◌, ◌%◌, ◌<◌, ◌≤◌, List, [], ◌∷◌, ◌++◌, length, take, drop, Some, None, Ok, Err, MatchBool, Option, Result, nat_lt}
 use Rattle.carriers.specs.Meaning.{Carried}
 use Rattle.exchange.specs.declared.record.RunRecord.{RunRecord}
 use Rattle.detection.specs.Detects.{Detects}
 use Rattle.detection.specs.declared.verdict.Detection.{Detection}
 use Rattle.detection.specs.declared.verdict.Verdict.{Verdict}
 use Rattle.detection.specs.declared.verdict.Verdict.TheVariants.{Stuck, Free}
+use Rattle.groups.specs.declared.store.Ending.{Ending}
 use Rattle.book.specs.Answers.{done, ticket, stop}
 use Rattle.book.specs.Calls.{Edit, Call, edits, opens, cancels, ends}
-use Rattle.book.specs.Commands.{Command, makes, opening, ending, detecting, over, unknown, cut, whole, head}
+use Rattle.book.specs.Commands.{Command, makes, opening, ending, detecting, Head, over, unknown, cut, whole, head}
 use Rattle.book.specs.Lent.{Lent}
 use Rattle.book.specs.Subjects.{Subject}
 use Rattle.book.specs.declared.script.fault.ScriptFault.{ScriptFault}
 use Rattle.book.specs.declared.script.fault.ScriptFault.TheVariants.{TooLong, UnknownLetter, CutOff, NoScriptGroup, NoAnswerSpace, OfBook, OfDetection}
 use Rattle.book.specs.declared.script.fault.StoppedScript.{StoppedScript}
 use Rattle.book.specs.declared.script.fault.FinishedScript.{FinishedScript}
+use Rattle.book.specs.declared.script.tally.Position.{Position}
 
 -- How many bytes a script has at most, and how many a detection writes.
 abbrev pub script_max : ℕ
@@ -23,15 +25,12 @@ script_max = 8192
 abbrev pub detection_bytes : ℕ
 detection_bytes = 4
 
--- How far a script has come: the subject, what is lent, how many bytes it has written and how many groups it has open; where its
--- next command begins, and how many it has carried out.
+-- How far a script has come: the subject, what is lent, how many bytes it has written and how many groups it has open.
 pub record Progress (X : Type 0) : Type 0 where
   pub subject : X
   pub lent : Lent
   pub written : ℕ
   pub groups : ℕ
-  pub offset : ℕ
-  pub index : ℕ
 
 -- The four bytes of a detection: the job, 1 if it is stuck and else 0, and the deliveries as 16 bits, the high byte first.
 abbrev pub verdict_byte : Verdict → ℕ
@@ -45,14 +44,21 @@ answer_bytes job d = job ∷ verdict_byte d.verdict ∷ d.deliveries / 256 ∷ d
 abbrev pub with_answer : (bytes : List ℕ) (written : ℕ) → List ℕ → List ℕ
 with_answer bytes written answer = take written bytes ++ (answer ++ drop (written + length answer) bytes)
 
+-- Why bytes are no command: the first is no command's letter, or they end inside the command.
+abbrev pub unreadable : Head → Option ScriptFault
+unreadable over = None
+unreadable unknown = Some UnknownLetter
+unreadable cut = Some CutOff
+unreadable (whole c n) = None
+
 module _ {X : Type 0} (S : Subject X) where
   -- The subject after a call, with so many groups of the script open.
   abbrev pub called : Progress X → Call → (groups : ℕ) → Progress X
-  called p c groups = record { subject = S.after p.subject c; lent = p.lent; written = p.written; groups = groups; offset = p.offset; index = p.index }
+  called p c groups = record { subject = S.after p.subject c; lent = p.lent; written = p.written; groups = groups }
 
   -- The ending of the innermost group, as its ticket would.
-  abbrev pub ends_innermost : X → (keeping : Bool) → Call
-  ends_innermost x keeping = ends keeping S.mark (S.depth x)
+  abbrev pub ends_innermost : X → Ending → Call
+  ends_innermost x e = ends e (S.mark x) (S.depth x)
 
   -- What was lent after an accepted detection.
   abbrev pub detected : Progress X → (job : ℕ) → Detection → (is : List RunRecord) (after : Carried) → Progress X
@@ -61,59 +67,63 @@ module _ {X : Type 0} (S : Subject X) where
     lent = record { records = is; carrier = after; bytes = with_answer p.lent.bytes p.written (answer_bytes job d) };
     written = p.written + detection_bytes;
     groups = p.groups;
-    offset = p.offset;
-    index = p.index;
   }
 
   -- A command is carried out.
   pub data Carries : Progress X → Command → Progress X → Type 0 where
     edited : {p : Progress X} {e : Edit} → S.says p.subject (edits e) ≡ done → Carries p (makes e) (called p (edits e) p.groups)
     opened : {p : Progress X} {mark depth : ℕ} → S.says p.subject opens ≡ ticket mark depth → Carries p opening (called p opens (p.groups + 1))
-    ended : {p : Progress X} {keeping : Bool} → 0 < p.groups → S.says p.subject (ends_innermost p.subject keeping) ≡ done
-        → Carries p (ending keeping) (called p (ends_innermost p.subject keeping) (p.groups - 1))
+    ended : {p : Progress X} {e : Ending} → 0 < p.groups → S.says p.subject (ends_innermost p.subject e) ≡ done
+        → Carries p (ending e) (called p (ends_innermost p.subject e) (p.groups - 1))
     answered : {p : Progress X} {job : ℕ} {d : Detection} {is : List RunRecord} {after : Carried} → p.written + detection_bytes ≤ length p.lent.bytes
         → Detects (S.rows p.subject) job p.lent.records is p.lent.carrier after (Ok d) → Carries p (detecting job) (detected p job d is after)
 
-  -- A fault stops a command: the script's own checks come first, then those of the call. Nothing changes.
+  -- A fault stops a command: the script's own checks come first, then those of the call.
   pub data Stops : Progress X → Command → ScriptFault → Type 0 where
     not_edited : {p : Progress X} {e : Edit} {fault : _} → S.says p.subject (edits e) ≡ stop fault → Stops p (makes e) (OfBook fault)
     not_opened : {p : Progress X} {fault : _} → S.says p.subject opens ≡ stop fault → Stops p opening (OfBook fault)
-    no_group : {p : Progress X} {keeping : Bool} → p.groups ≡ 0 → Stops p (ending keeping) NoScriptGroup
+    no_group : {p : Progress X} {e : Ending} → p.groups ≡ 0 → Stops p (ending e) NoScriptGroup
     no_space : {p : Progress X} {job : ℕ} → length p.lent.bytes < p.written + detection_bytes → Stops p (detecting job) NoAnswerSpace
     not_detected : {p : Progress X} {job : ℕ} {fault : _} → p.written + detection_bytes ≤ length p.lent.bytes
         → Detects (S.rows p.subject) job p.lent.records p.lent.records p.lent.carrier p.lent.carrier (Err fault) → Stops p (detecting job) (OfDetection fault)
 
-  -- The next command begins so many bytes further on.
-  abbrev pub next : Progress X → (bytes : ℕ) → Progress X
-  next p bytes = record { subject = p.subject; lent = p.lent; written = p.written; groups = p.groups; offset = p.offset + bytes; index = p.index + 1 }
+  -- The command at the head of the bytes unread: it is carried out, and so many bytes are read; or there is a fault, and nothing changes.
+  pub data Steps : (unread : List ℕ) → Progress X → Option ScriptFault → Progress X → (bytes : ℕ) → Type 0 where
+    carries : {unread : List ℕ} {p q : Progress X} {c : Command} {n : ℕ} → head unread ≡ whole c n → Carries p c q → Steps unread p None q n
+    stops : {unread : List ℕ} {p : Progress X} {c : Command} {n : ℕ} {fault : ScriptFault} → head unread ≡ whole c n → Stops p c fault → Steps unread p (Some fault) p 0
+    strange : {unread : List ℕ} {p : Progress X} {fault : ScriptFault} → unreadable (head unread) ≡ Some fault → Steps unread p (Some fault) p 0
 
-  -- From the bytes unread: to their end, or to the first fault.
-  pub data Reads : (unread : List ℕ) → Progress X → Option ScriptFault → Progress X → Type 0 where
-    finishes : {unread : List ℕ} {p : Progress X} → head unread ≡ over → Reads unread p None p
-    strange : {unread : List ℕ} {p : Progress X} → head unread ≡ unknown → Reads unread p (Some UnknownLetter) p
-    cut_off : {unread : List ℕ} {p : Progress X} → head unread ≡ cut → Reads unread p (Some CutOff) p
-    stops : {unread : List ℕ} {p : Progress X} {c : Command} {n : ℕ} {fault : ScriptFault} → head unread ≡ whole c n → Stops p c fault → Reads unread p (Some fault) p
-    carries : {unread : List ℕ} {p q r : Progress X} {c : Command} {n : ℕ} {o : Option ScriptFault} → head unread ≡ whole c n → Carries p c q → Reads (drop n unread) (next q n) o r → Reads unread p o r
+  -- So many bytes further on stands the next command.
+  abbrev pub next : Position → (bytes : ℕ) → Position
+  next here bytes = record { offset = here.offset + bytes; index = here.index + 1 }
+
+  -- From the bytes unread: to their end, or to the first fault. A position tells where the next command begins, and how many were
+  -- carried out before it.
+  pub data Reads : (unread : List ℕ) → Position → Progress X → Option ScriptFault → Position → Progress X → Type 0 where
+    finishes : {here : Position} {p : Progress X} → Reads [] here p None here p
+    faults : {unread : List ℕ} {here : Position} {p q : Progress X} {n : ℕ} {fault : ScriptFault} → Steps unread p (Some fault) q n → Reads unread here p (Some fault) here q
+    steps : {unread : List ℕ} {here there : Position} {p q r : Progress X} {n : ℕ} {o : Option ScriptFault} → Steps unread p None q n → Reads (drop n unread) (next here n) q o there r → Reads unread here p o there r
 
   -- The innermost groups, so many, are cancelled.
   abbrev pub cancel_groups : (groups : ℕ) → X → X
   cancel_groups zero x = x
-  cancel_groups (suc groups) x = cancel_groups groups (S.after x (cancels S.mark (S.depth x)))
+  cancel_groups (suc groups) x = cancel_groups groups (S.after x (cancels (S.mark x) (S.depth x)))
 
   abbrev pub start : X → Lent → Progress X
-  start x lent = record { subject = x; lent = lent; written = 0; groups = 0; offset = 0; index = 0 }
+  start x lent = record { subject = x; lent = lent; written = 0; groups = 0 }
 
   -- The answer of a script: what was carried out, how many groups were cancelled at its end, and the bytes written; or its fault.
-  abbrev pub script_answer : Option ScriptFault → Progress X → Result FinishedScript StoppedScript
-  script_answer None p = Ok (record { commands = p.index; cancelled = p.groups; written = p.written })
-  script_answer (Some fault) p = Err (record { fault = fault; offset = p.offset; index = p.index; written = p.written })
+  abbrev pub script_answer : Option ScriptFault → Position → Progress X → Result FinishedScript StoppedScript
+  script_answer None there p = Ok (record { commands = there.index; cancelled = p.groups; written = p.written })
+  script_answer (Some fault) there p = Err (record { fault = fault; offset = there.offset; index = there.index; written = p.written })
 
   -- A script that is not too long: commands to the end or to a fault, and then its open groups are cancelled.
   pub record Worked (x : X) (lent : Lent) (script : List ℕ) (answer : Result FinishedScript StoppedScript) (x' : X) (lent' : Lent) : Type 0 where
     pub fault : Option ScriptFault
+    pub there : Position
     pub last : Progress X
-    pub reads : Reads script (start x lent) fault last
-    pub says : answer ≡ script_answer fault last
+    pub reads : Reads script (record { offset = 0; index = 0 }) (start x lent) fault there last
+    pub says : answer ≡ script_answer fault there last
     pub leaves : x' ≡ cancel_groups last.groups last.subject
     pub lends : lent' ≡ last.lent
 

@@ -7,18 +7,18 @@ use Rattle.book.specs.Answers.{Answer, says, after}
 use Rattle.book.specs.Calls.{Call, Edit}
 use Rattle.book.specs.History.{Terms, face_of, answers, fed}
 
--- What a subject answers to a call, what it is afterwards, and what can be seen of it.
+-- What a subject answers to a call, what it is afterwards, and what can be seen of it; and the mark of its tickets.
 pub record Subject (X : Type 0) : Type 0 where
-  pub mark : ℕ
+  pub mark : X → ℕ
   pub says : X → Call → Answer
   pub after : X → Call → X
   pub rows : X → List Waiting
   pub depth : X → ℕ
 
--- A book with this mark.
-abbrev pub of_book : (mark : ℕ) → Subject (State Waiting)
-of_book mark = record {
-  mark = mark;
+-- A book.
+abbrev pub of_book : Subject (State Waiting)
+of_book = record {
+  mark = λ s. s.mark;
   says = says;
   after = after;
   rows = λ s. s.rows;
@@ -28,7 +28,7 @@ of_book mark = record {
 -- A history: it knows what creation was told and the calls that still count, and nothing of a book.
 abbrev pub of_history : Terms → Subject (History Edit)
 of_history t = record {
-  mark = t.mark;
+  mark = λ h. t.mark;
   says = answers t;
   after = fed t;
   rows = λ h. (face_of t h).rows;

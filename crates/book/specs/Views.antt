@@ -1,9 +1,13 @@
--- What the answers of the program stand for.
+-- What the calls and answers of the program stand for.
 use Rattle.std.specs.Prelude.{Ok, Err, Result}
+use Rattle.groups.specs.declared.store.Stub.{Stub}
 use Rattle.groups.specs.declared.store.Ticket.{Ticket}
+use Rattle.book.specs.declared.calls.Edit.{Edit}
+use Rattle.book.specs.declared.calls.Edit.TheVariants.{Grant, Request}
 use Rattle.book.specs.declared.fault.BookFault.{BookFault}
 use Rattle.book.specs.declared.fault.RefusedEnding.{RefusedEnding}
 use Rattle.book.specs.Faults.{number}
+use Rattle.book.specs.Calls.{requests, grants, Edit as EditCall}
 use Rattle.book.specs.Answers.{Answer, done, ticket, returned, stop}
 
 abbrev pub told : Result (Unit {0}) BookFault → Answer
@@ -17,3 +21,16 @@ told_opening (Err fault) = stop fault
 abbrev pub told_ending : Result (Unit {0}) RefusedEnding → Answer
 told_ending (Ok u) = done
 told_ending (Err e) = returned (number e.fault) e.returned.ticket.mark e.returned.ticket.depth
+
+-- Without a ticket: what it would tell.
+abbrev pub told_stub : Result Stub BookFault → Answer
+told_stub (Ok s) = ticket s.mark s.depth
+told_stub (Err fault) = stop fault
+
+abbrev pub told_ending_by : Stub → Result (Unit {0}) BookFault → Answer
+told_ending_by s (Ok u) = done
+told_ending_by s (Err fault) = returned (number fault) s.mark s.depth
+
+abbrev pub edit_of : Edit → EditCall
+edit_of (Grant granter waiter) = grants granter waiter
+edit_of (Request job need targets) = requests job need targets.now

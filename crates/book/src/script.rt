@@ -1,4 +1,12 @@
-// Scripts: byte strings of calls.
+// Scripts: calls of the book and detections, as a string of bytes.
+mod answer;
+mod command;
 mod fault;
+mod place;
+mod reader;
+mod run;
+mod tally;
+mod work;
 
-pub use self::fault::{FinishedScript, ScriptFault, StoppedScript};
+pub use fault::{FinishedScript, ScriptFault, StoppedScript};
+pub use run::SCRIPT_MAX;

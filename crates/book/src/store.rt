@@ -1,5 +1,6 @@
 // The book's data, with its law.
 mod calls;
+mod owned;
 mod questions;
 
 use groups::Groups;

@@ -13,6 +13,7 @@ use Rattle.exchange.proofs.Told.{ended_runs_tell}
 use Rattle.detection.specs.Asked.{Tabled}
 use Rattle.detection.specs.Detected.{verdict_of, Finished}
 use Rattle.detection.specs.declared.verdict.Detection.{Detection}
+use Rattle.detection.proofs.Few.{waits_are_few}
 use Rattle.detection.proofs.Going.{state, Going, growth, within_bounds, growth_is_the_deliveries}
 use Rattle.detection.proofs.Verdicts.{free_verdict_tells, stuck_verdict_tells}
 
@@ -41,6 +42,7 @@ module _ {rows : List Waiting} {initiator : ℕ} (tabled : Tabled rows) (job : i
             (sym (take_all (length rows) records (omega arith))) ended_run;
         count = count;
         few = omega (arith, (within_bounds tabled job going).deliveries);
+        narrow = omega (arith, (within_bounds tabled job going).deliveries, waits_are_few rows tabled);
         rest = drop_all (length rows) records (omega arith) ∙ sym (drop_all (length rows) was (omega arith));
         waiting = ap (λ (c : Carried). c.waiting) took.waiting ∙ none_waits;
         capacity = took.capacity ∙ going.capacity ∙ same-room;

@@ -1,5 +1,5 @@
 -- When a detection is stopped, and what any other leaves.
-use Rattle.std.specs.Prelude.{◌≡◌, ℕ, ◌+◌, ◌*◌, ◌%◌, ◌^◌, ◌≤◌, cond, ◌↔◌, List, [], length, take, drop, Some, None, Option, nat_le, nat_lt, slice_index_or}
+use Rattle.std.specs.Prelude.{◌≡◌, ℕ, ◌+◌, ◌*◌, ◌%◌, ◌^◌, ◌<◌, ◌≤◌, cond, ◌↔◌, List, [], length, take, drop, Some, None, Option, nat_le, nat_lt, slice_index_or}
 use Rattle.carriers.specs.Meaning.{Carried}
 use Rattle.carriers.specs.declared.message.Message.{Message}
 use Rattle.rows.specs.Waiting.{Waiting}
@@ -33,9 +33,10 @@ pub record Finished (rows : List Waiting) (initiator : ℕ) (was is : List RunRe
   -- the messages in the order in which they were delivered: a run by them ends with nothing waiting, in the records left
   pub order : List Message
   pub run : Exchange rows initiator order (record { records = take (length rows) is; waiting = [] })
-  -- the count is the length of that run, and at most four for each wait
+  -- the count is the length of that run, and at most four for each wait; so 16 bits hold it
   pub count : d.deliveries ≡ length order
   pub few : d.deliveries ≤ 4 * waits rows
+  pub narrow : d.deliveries < 2 ^ 16
   -- records beyond the jobs are unchanged
   pub rest : drop (length rows) is ≡ drop (length rows) was
   -- the carrier waits for nothing and is as large as before; its own count grew by the deliveries, modulo 2 ^ 32

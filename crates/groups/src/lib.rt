@@ -3,4 +3,6 @@
 
 mod store;
 
-pub use store::{DEPTH_MAX, Groups, Old, ROWS, Returned, TRAIL_MAX, Ticket, TrailFull};
+pub use store::{
+    DEPTH_MAX, Ending, Groups, Old, ROWS, Returned, Stub, TRAIL_MAX, Ticket, TrailFull,
+};

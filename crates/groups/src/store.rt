@@ -1,5 +1,6 @@
 // The rows, the trail and the open groups.
 mod calls;
+mod owned;
 
 use arrayvec::ArrayVec;
 use containers::{Full, Stack};
@@ -35,6 +36,20 @@ impl From<Full> for TrailFull {
 pub struct Ticket {
     mark: u16,
     depth: u8,
+}
+
+// What a ticket tells. Whoever has it has no right to end a group.
+#[derive(Clone, Copy, Drop, PartialEq, Eq, Debug)]
+pub struct Stub {
+    pub mark: u16,
+    pub depth: u8,
+}
+
+// How a group ends.
+#[derive(Clone, Copy, Drop, PartialEq, Eq, Debug)]
+pub enum Ending {
+    Keep,
+    Cancel,
 }
 
 // A ticket that an ending has refused: it is taken out again, or given up.

@@ -1,0 +1,30 @@
+use Rattle.std.proofs.Common.{refl, Some, None}
+use Rattle.book.specs.Working.{far}
+use Rattle.book.proofs.Simulated.{worked_ran}
+use Rattle.book.proofs.store.Book.run_script.Goals as goal
+
+pub returns-in-Ok : goal.returns-in-Ok
+returns-in-Ok g c =
+    let w = c.work-worked.new in
+    worked_ran c.if-script-gt-SCRIPT_MAX.false (record {
+      fault = None;
+      there = w.position;
+      last = far w.self w.records (g.C.Carrier.carried w.carrier) w.answers w.tally;
+      reads = c.in-Ok.ensures.reads;
+      says = refl;
+      leaves = c.cancel_groups.ensures;
+      lends = refl;
+    })
+
+pub returns-in-Err : goal.returns-in-Err
+returns-in-Err g c =
+    let w = c.work-worked.new in
+    worked_ran c.if-script-gt-SCRIPT_MAX.false (record {
+      fault = Some c.in-Err.fault;
+      there = w.position;
+      last = far w.self w.records (g.C.Carrier.carried w.carrier) w.answers w.tally;
+      reads = c.in-Err.ensures.reads;
+      says = refl;
+      leaves = c.cancel_groups.ensures;
+      lends = refl;
+    })

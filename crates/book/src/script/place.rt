@@ -1,0 +1,24 @@
+// The reader's place in a script, and a guard over it.
+ghost use Rattle.std.specs.Prelude.{◌≡◌, if◌then◌else◌};
+
+// Puts the reader back to where it stood first, unless the command that it has read since is accepted.
+pub struct PlaceGuard<'p> {
+    pub place: &'p mut usize,
+    pub first: usize,
+    pub accepted: bool,
+}
+
+impl Drop for PlaceGuard<'_> {
+    fn drop(self)
+        ensures { self.exit.0.now ≡ (if self.entry.accepted then self.entry.place.now else self.entry.first) }
+    {
+        if !self.accepted {
+            *self.place = self.first;
+        }
+        let PlaceGuard {
+            place: _,
+            first: _,
+            accepted: _,
+        } = self;
+    }
+}

@@ -1,0 +1,59 @@
+// Opening and ending without a ticket, for whatever owns the groups. It decides who else may: a book asks its clients for tickets.
+ghost use Rattle.std.specs.Prelude.{◌≡◌, ◌+◌, length, if◌then◌else◌, Some, None, nat_lt};
+ghost use Rattle.groups.specs.Limits.{depth_max};
+ghost use Rattle.groups.specs.State.{face, innermost, opened};
+ghost use Rattle.groups.specs.Tickets.{ended_as};
+
+use crate::store::{Ending, Groups, Stub, Ticket};
+
+impl<'a, P: Copy> Groups<'a, P> {
+    // What the innermost group's ticket tells; where no group is open, no ticket tells this.
+    pub fn innermost(&self) -> Stub
+        ensures { result ≡ record { mark = self.now.mark; depth = length self.now.groups } }
+    {
+        Stub {
+            mark: self.mark,
+            depth: self.depth() as u8,
+        }
+    }
+
+    // Opens a group inside the others, and answers what its ticket would tell; none, and nothing changed, if eight are open.
+    pub fn open_by_owner(&mut self) -> Option<Stub>
+        ensures value { result ≡ (if nat_lt (face self.old).depth depth_max then Some (record { mark = self.old.mark; depth = (face self.old).depth + 1 }) else None) }
+        ensures after { self.new ≡ (if nat_lt (face self.old).depth depth_max then opened self.old else self.old) }
+    {
+        let Ticket { mark, depth } = self.open()?;
+        Some(Stub { mark, depth })
+    }
+
+    // Ends the innermost group, if the stub is that group's; says whether it is. Else nothing changes.
+    pub fn end_by_owner(&mut self, ending: Ending, stub: Stub) -> bool
+        ensures value { result ≡ innermost self.old.mark (face self.old) stub.mark stub.depth }
+        ensures after { self.new ≡ (if innermost self.old.mark (face self.old) stub.mark stub.depth then ended_as ending self.old else self.old) }
+    {
+        let ticket = stub.ticket();
+        let ended = match ending {
+            Ending::Keep => self.keep(ticket),
+            Ending::Cancel => self.cancel(ticket),
+        };
+        match ended {
+            Ok(()) => true,
+            Err(refused) => {
+                refused.give_up();
+                false
+            }
+        }
+    }
+}
+
+impl Stub {
+    // The ticket that tells this.
+    fn ticket(self) -> Ticket
+        ensures { result ≡ record { mark = self.mark; depth = self.depth } }
+    {
+        Ticket {
+            mark: self.mark,
+            depth: self.depth,
+        }
+    }
+}
