@@ -1,4 +1,6 @@
+pub mod Alive
 pub mod Following
+pub mod Lives
 pub mod Lawful
 pub mod Reading
 pub mod Rounds

@@ -13,3 +13,8 @@ pub mod Scripts
 pub mod Reading
 pub mod Working
 pub mod ScriptRuns
+pub mod Events
+pub mod Law
+pub mod Snapshots
+pub mod Moments
+pub mod Performing

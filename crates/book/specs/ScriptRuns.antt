@@ -1,5 +1,5 @@
 -- A script that is run on a book.
-use Rattle.std.specs.Prelude.{ℕ, List, Result}
+use Rattle.std.specs.Prelude.{ℕ, List, Ok, Err, Result}
 use Rattle.carriers.specs.Meaning.{Carried}
 use Rattle.exchange.specs.declared.record.RunRecord.{RunRecord}
 use Rattle.rows.specs.Waiting.{Waiting}
@@ -21,3 +21,8 @@ lent records carrier bytes = record { records = records; carrier = carrier; byte
 pub record Ran (s : State Waiting) (l : Lent) (script : List ℕ) (answer : Result FinishedScript StoppedScript) (s' : State Waiting) (l' : Lent) : Type 0 where
   pub does : Scripted of_book s l script answer s' l'
   pub shows : (h : History Edit) → Shows s h → (h' : History Edit) × Scripted (of_history (terms s)) h l script answer h' l' × Shows s' h'
+
+-- How many answer bytes a script has written.
+abbrev pub script_written : Result FinishedScript StoppedScript → ℕ
+script_written (Ok f) = f.written
+script_written (Err s) = s.written

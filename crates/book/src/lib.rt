@@ -3,13 +3,17 @@
 
 mod calls;
 mod fault;
+mod life;
 mod script;
+mod snapshot;
 mod store;
 
 pub use calls::Edit;
 pub use fault::{BookFault, RefusedEnding};
 pub use groups::{DEPTH_MAX, Ending, Old, Stub, TRAIL_MAX, Ticket};
+pub use life::{Answer, Call, Creation, Moment, TooFewMoments, live};
 pub use rows::{PlainRow, TARGETS_MAX};
 pub use script::{FinishedScript, SCRIPT_MAX, ScriptFault, StoppedScript};
+pub use snapshot::Snapshot;
 pub use store::Book;
 pub use tables::{JOBS_MAX, Table, TwoWayTable};

@@ -3,7 +3,10 @@ ghost use Rattle.std.specs.Prelude.{◌≡◌, ◌≤◌, length};
 ghost use Rattle.rows.specs.Waiting.{at};
 ghost use Rattle.rows.specs.Views.{waiting_of};
 ghost use Rattle.groups.specs.Limits.{depth_max};
+ghost use Rattle.book.specs.Snapshots.{snapshot_view};
+ghost use Rattle.book.specs.Subjects.{of_book, view_of};
 
+use crate::snapshot::Snapshot;
 use crate::store::Book;
 use rows::Row;
 use tables::{Table, TwoWayTable};
@@ -17,6 +20,17 @@ impl<'a> Book<'a> {
             return Row::idle();
         }
         Row::try_from(self.groups.row(job as u8)).unwrap()
+    }
+
+    // What is seen of the book.
+    pub fn snapshot(&self) -> Snapshot
+        ensures { snapshot_view result ≡ view_of of_book self.now }
+    {
+        Snapshot {
+            jobs: self.jobs,
+            rows: *self.groups.rows(),
+            depth: self.depth(),
+        }
     }
 
     // How many groups are open.

@@ -31,6 +31,13 @@ impl<'a, P: Copy> Groups<'a, P> {
         rows[job as usize]
     }
 
+    // All rows.
+    pub fn rows(&self) -> &[P; ROWS]
+        ensures { result.now ≡ self.now.rows }
+    {
+        &self.rows
+    }
+
     // How many groups are open.
     pub fn depth(&self) -> usize
         ensures value { result ≡ length self.now.groups }

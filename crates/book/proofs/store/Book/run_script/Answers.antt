@@ -3,8 +3,8 @@ use Rattle.book.specs.Working.{far}
 use Rattle.book.proofs.Simulated.{worked_ran}
 use Rattle.book.proofs.store.Book.run_script.Goals as goal
 
-pub returns-in-Ok : goal.returns-in-Ok
-returns-in-Ok g c =
+pub returns-in-Ok-clause-ran : goal.returns-in-Ok-clause-ran
+returns-in-Ok-clause-ran g c =
     let w = c.work-worked.new in
     worked_ran c.if-script-gt-SCRIPT_MAX.false (record {
       fault = None;
@@ -16,8 +16,8 @@ returns-in-Ok g c =
       lends = refl;
     })
 
-pub returns-in-Err : goal.returns-in-Err
-returns-in-Err g c =
+pub returns-in-Err-clause-ran : goal.returns-in-Err-clause-ran
+returns-in-Err-clause-ran g c =
     let w = c.work-worked.new in
     worked_ran c.if-script-gt-SCRIPT_MAX.false (record {
       fault = Some c.in-Err.fault;

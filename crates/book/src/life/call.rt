@@ -1,0 +1,27 @@
+// The calls of a life, and what they answer.
+
+use crate::calls::Edit;
+use crate::fault::BookFault;
+use crate::script::{FinishedScript, StoppedScript};
+use detection::{Detection, DetectionFault};
+use groups::{Ending, Stub};
+
+// A call. An ending is made with a ticket that tells what the stub tells, whether or not an opening has given such a ticket.
+#[derive(Clone, Copy, Debug)]
+pub enum Call<'c> {
+    Open,
+    End { ending: Ending, stub: Stub },
+    Detect { job: usize },
+    Edit(Edit<'c>),
+    Run { script: &'c [u8] },
+}
+
+// The answer of a call. The ticket of a refused ending is the one that it was made with.
+#[derive(Clone, Copy, Drop, PartialEq, Eq, Debug)]
+pub enum Answer {
+    Opened(Result<Stub, BookFault>),
+    Ended(Result<(), BookFault>),
+    Detected(Result<Detection, DetectionFault>),
+    Edited(Result<(), BookFault>),
+    Ran(Result<FinishedScript, StoppedScript>),
+}
