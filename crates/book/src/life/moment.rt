@@ -1,6 +1,7 @@
 // What is given back of a life.
-ghost use Rattle.std.specs.Prelude.{◌≡◌};
-ghost use Rattle.book.specs.Moments.{written_by};
+ghost use Rattle.std.specs.Prelude.{◌≡◌, [], Ok};
+ghost use Rattle.book.specs.declared.life.call.Answer.TheVariants.{Edited};
+ghost use Rattle.book.specs.Moments.{answer_at, seen_at, written_by};
 
 use crate::life::call::Answer;
 use crate::snapshot::Snapshot;
@@ -10,6 +11,19 @@ use crate::snapshot::Snapshot;
 pub struct Moment {
     pub answer: Answer,
     pub seen: Snapshot,
+}
+
+impl Moment {
+    // A moment in which no life has been lived yet.
+    pub fn blank() -> Moment
+        ensures answer { answer_at result ≡ Edited (Ok tt) }
+        ensures seen { seen_at result ≡ record { rows = []; depth = 0 } }
+    {
+        Moment {
+            answer: Answer::Edited(Ok(())),
+            seen: Snapshot::blank(),
+        }
+    }
 }
 
 impl Answer {
