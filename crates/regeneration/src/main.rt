@@ -1,150 +1,114 @@
-// A day of regeneration, worked from beginning to end.
+// A day of regeneration, lived from beginning to end by one call, over each of the carriers.
 #![tactic(auto)]
 
-mod detector;
-mod edits;
+mod day;
 mod names;
 mod show;
+mod tell;
 mod trouble;
 
-use crate::detector::ask_about_output;
-use crate::edits::{ask, grant};
-use crate::names::{JOBS, Job};
+use crate::day::{MARK, STEPS, Step, day};
+use crate::names::JOBS;
 use crate::trouble::Trouble;
-use book::{Book, Old, PlainRow, RefusedEnding, Ticket};
-
-// The mark of this book's tickets.
-const MARK: u16 = 7;
+use book::{Call, Creation, Moment, Old, PlainRow, Snapshot, live};
+use carriers::{Carrier, Kind, Message, Picker, QueueCarrier, StackCarrier, Wait};
+use detection::{CAPACITY_PER_WAIT, RunRecord};
 
 // How many old rows the groups of the day can hold.
 const TRAIL: usize = 64;
 
-// The morning's edits: a fillet, a preview and a sheet, each waiting for what it is made of.
-fn morning(rt: &HostRuntime, book: &mut Book) -> Result<(), Trouble> {
-    ask(rt, book, Job::Fillet, 2, &[Job::LeftFace, Job::RightFace])?;
-    ask(
-        rt,
-        book,
-        Job::Preview,
-        1,
-        &[Job::BodyMesh, Job::DoorMesh, Job::DrawerMesh],
-    )?;
-    ask(
-        rt,
-        book,
-        Job::Sheet,
-        2,
-        &[
-            Job::FrontView,
-            Job::SideView,
-            Job::TopView,
-            Job::SectionView,
-        ],
-    )
+// The most waits that the book has when the detector is asked.
+const MOST_WAITS: usize = 15;
+
+const CELLS: usize = CAPACITY_PER_WAIT * MOST_WAITS;
+
+// How many bytes the scripts of the day can write.
+const ANSWERS: usize = 16;
+
+// What the picker picks; after these it hands out the oldest message.
+const PICKS: [u16; 8] = [3, 1, 4, 1, 5, 9, 2, 6];
+
+// What lies in a cell before a carrier is made of it.
+const UNUSED: Message = Message {
+    kind: Kind::Notify,
+    wait: Wait {
+        waiter: 0,
+        target: 0,
+    },
+};
+
+// A day that was lived: what was seen at first, and at each call, and what the scripts wrote.
+#[derive(Drop)]
+struct Lived {
+    first: Snapshot,
+    moments: [Moment; STEPS],
+    answers: [u8; ANSWERS],
 }
 
-// Works in a group of its own, and ends the group whatever comes of the work.
-fn in_group<'m, W, E>(rt: &HostRuntime, book: &mut Book<'m>, work: W, end: E) -> Result<(), Trouble>
-where
-    W: FnOnce(&HostRuntime, &mut Book<'m>) -> Result<(), Trouble>,
-    E: FnOnce(&mut Book<'m>, Ticket) -> Result<(), RefusedEnding>,
-    requires work { W.IsAlwaysCallable work }
-    requires end { E.IsAlwaysCallable end }
-{
-    let ticket = book.open()?;
-    let worked = work(rt, book);
-    end(book, ticket)?;
-    worked
+// The calls of the day alone. They are written by place: the check doesn't cover a walk that changes values which hold references.
+fn calls_of(day: &[Step<'static>; STEPS]) -> [Call<'static>; STEPS] {
+    let mut calls = [Call::Open; STEPS];
+    for (place, step) in day.iter().enumerate() {
+        calls[place] = step.call;
+    }
+    calls
 }
 
-// A fillet on a drawer edge, and the section view that would show it.
-fn drawer_edge(rt: &HostRuntime, book: &mut Book) -> Result<(), Trouble> {
-    ask(
-        rt,
-        book,
-        Job::DrawerFillet,
-        2,
-        &[Job::DrawerFront, Job::DrawerSide],
-    )?;
-    ask(rt, book, Job::SectionView, 1, &[Job::DrawerFillet])?;
-    println!(rt; "the drawer edge is too thin: its fillet fails")?;
-    Ok(())
-}
-
-// The drawer edge in a group of its own, which is cancelled: the failed fillet leaves no wait behind.
-fn failing_group(rt: &HostRuntime, book: &mut Book) -> Result<(), Trouble> {
-    println!(rt; "a group is opened for the drawer edge; waiting before it:")?;
-    show::waiting(rt, book)?;
-    in_group(rt, book, drawer_edge, Book::cancel)?;
-    println!(rt; "the group is cancelled; waiting after it:")?;
-    show::waiting(rt, book)?;
-    Ok(())
-}
-
-// A later edit, kept in a group of its own.
-fn later_group(rt: &HostRuntime, book: &mut Book) -> Result<(), Trouble> {
-    println!(rt; "a group is opened for the handle")?;
-    in_group(
-        rt,
-        book,
-        |rt, book| ask(rt, book, Job::Handle, 1, &[Job::DoorMesh, Job::DrawerFront]),
-        Book::keep,
-    )?;
-    println!(rt; "the group is kept")?;
-    Ok(())
-}
-
-// A careless edit: three views that wait in a circle. The sheet can get no more than one of its four views.
-fn views_in_a_circle(rt: &HostRuntime, book: &mut Book) -> Result<(), Trouble> {
-    ask(rt, book, Job::SideView, 1, &[Job::TopView])?;
-    ask(rt, book, Job::TopView, 1, &[Job::SectionView])?;
-    ask(
-        rt,
-        book,
-        Job::SectionView,
-        2,
-        &[Job::SideView, Job::TopView],
-    )?;
-    println!(rt; "what waits inside the group:")?;
-    show::waiting(rt, book)?;
-    ask_about_output(rt, book)
-}
-
-// The careless edit in a group of its own, which is cancelled, since the sheet is stuck in it; then the sheet is only slow again.
-fn careless_group(rt: &HostRuntime, book: &mut Book) -> Result<(), Trouble> {
-    println!(rt; "a group is opened for three views")?;
-    in_group(rt, book, views_in_a_circle, Book::cancel)?;
-    println!(rt; "the group is cancelled: the sheet would never be done")?;
-    ask_about_output(rt, book)
-}
-
-// Faces, meshes and views are done one after the other.
-fn afternoon(rt: &HostRuntime, book: &mut Book) -> Result<(), Trouble> {
-    grant(rt, book, Job::LeftFace, Job::Fillet)?;
-    grant(rt, book, Job::RightFace, Job::Fillet)?;
-    grant(rt, book, Job::BodyMesh, Job::Preview)?;
-    grant(rt, book, Job::SectionView, Job::Sheet)?;
-    grant(rt, book, Job::FrontView, Job::Sheet)
-}
-
-// The day inside the designer's own group.
-fn day(rt: &HostRuntime, book: &mut Book) -> Result<(), Trouble> {
-    morning(rt, book)?;
-    failing_group(rt, book)?;
-    later_group(rt, book)?;
-    careless_group(rt, book)?;
-    afternoon(rt, book)
-}
-
-fn main(rt: HostRuntime) -> Result<(), Trouble> {
-    let mut memory = [Old {
+// Lives the day over a carrier.
+fn live_over<C: Carrier>(calls: &[Call<'_>], carrier: &mut C) -> Result<Lived, Trouble> {
+    let mut trail = [Old {
         job: 0,
         row: PlainRow::idle(),
     }; TRAIL];
-    let mut book = Book::new(JOBS, MARK, &mut memory);
+    let mut records = [RunRecord::blank(); JOBS];
+    let mut answers = [0; ANSWERS];
+    let mut moments = [Moment::blank(); STEPS];
+    let first = live(
+        Creation {
+            jobs: JOBS,
+            mark: MARK,
+            trail: &mut trail,
+        },
+        calls,
+        &mut records,
+        carrier,
+        &mut answers,
+        &mut moments,
+    )?;
+    Ok(Lived {
+        first,
+        moments,
+        answers,
+    })
+}
+
+// Tells the whole day, call by call.
+fn tell_all(rt: &HostRuntime, day: &[Step<'static>; STEPS], lived: &Lived) -> Result<(), Trouble> {
+    let mut before = &lived.first;
+    let mut written = 0;
+    for (step, moment) in day.iter().zip(&lived.moments) {
+        let bytes = lived.answers.get(written..).unwrap_or(&[]);
+        tell::call(rt, step, before, moment, bytes)?;
+        written = written.saturating_add(moment.answer.written());
+        before = &moment.seen;
+    }
+    Ok(())
+}
+
+fn main(rt: HostRuntime) -> Result<(), Trouble> {
+    let mut cells = [UNUSED; CELLS];
+    let day = day();
+    let calls = calls_of(&day);
     println!(rt; "a day of regeneration: {JOBS} jobs, all active")?;
-    in_group(&rt, &mut book, day, Book::keep)?;
-    println!(rt; "the day is kept; left waiting:")?;
-    show::waiting(&rt, &book)?;
+    let over_queue = live_over(&calls, &mut QueueCarrier::new(&mut cells))?;
+    tell_all(&rt, &day, &over_queue)?;
+    print!(rt; "the detector over a queue:")?;
+    tell::detections(&rt, &over_queue.moments)?;
+    let over_stack = live_over(&calls, &mut StackCarrier::new(&mut cells))?;
+    print!(rt; "the same day over a stack:")?;
+    tell::detections(&rt, &over_stack.moments)?;
+    let over_picker = live_over(&calls, &mut Picker::new(&mut cells, &PICKS))?;
+    print!(rt; "the same day over a picker:")?;
+    tell::detections(&rt, &over_picker.moments)?;
     Ok(())
 }

@@ -68,8 +68,8 @@ impl Job {
 }
 
 // The name of the job with a number.
-pub fn name_of(number: u8) -> &'static str {
-    match Job::ALL.get(number as usize) {
+pub fn name_of(number: usize) -> &'static str {
+    match Job::ALL.get(number) {
         Some(job) => job.name(),
         None => "unknown job",
     }

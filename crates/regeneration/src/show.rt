@@ -1,21 +1,27 @@
-// Rows as lines of text, and the words for stuck and slow.
-use crate::names::{JOBS, Job, name_of};
+// What is seen of the book, as lines of text, and the words for stuck and slow.
+use crate::names::{JOBS, name_of};
 use crate::trouble::Trouble;
-use book::Book;
+use book::{PlainRow, Snapshot};
+use chart::{Chart, ROW_BYTES};
 use reduction::{HELD, reduce};
 use std::io;
-use tables::Table;
+
+// The row of a job; beyond the last job it is idle.
+fn row_of(seen: &Snapshot, job: usize) -> PlainRow {
+    seen.rows().get(job).copied().unwrap_or(PlainRow::idle())
+}
 
 // What a job needs, and for what it waits.
-pub fn row(rt: &HostRuntime, book: &Book, job: Job) -> io::Result<()> {
-    let need = book.need(job as usize);
+pub fn row(rt: &HostRuntime, seen: &Snapshot, job: usize) -> io::Result<()> {
+    let row = row_of(seen, job);
+    let need = row.need;
     if need == 0 {
         return print!(rt; "active");
     }
     print!(rt; "needs {need} of ")?;
-    for (place, target) in book.targets(job as usize).enumerate() {
+    for (place, target) in row.targets.iter().take(row.count as usize).enumerate() {
         let comma = if place == 0 { "" } else { ", " };
-        let name = name_of(target);
+        let name = name_of(*target as usize);
         print!(rt; "{comma}{name}")?;
     }
     Ok(())
@@ -26,16 +32,31 @@ pub fn word(stuck: bool) -> &'static str {
     if stuck { "stuck" } else { "only slow" }
 }
 
-// The jobs that wait, each with the word of the reduction.
-pub fn waiting(rt: &HostRuntime, book: &Book) -> Result<(), Trouble> {
+// The rows as the bytes of a chart.
+fn chart_bytes(seen: &Snapshot) -> [u8; JOBS * ROW_BYTES] {
+    let mut bytes = [0; JOBS * ROW_BYTES];
+    for (place, row) in bytes.chunks_exact_mut(ROW_BYTES).zip(seen.rows()) {
+        place[0] = row.need;
+        place[1] = row.count;
+        let targets = row.targets.iter().take(row.count as usize);
+        for (byte, target) in place[2..].iter_mut().zip(targets) {
+            *byte = *target;
+        }
+    }
+    bytes
+}
+
+// The jobs that wait, each with the word of the reduction, which reads the rows as a chart.
+pub fn waiting(rt: &HostRuntime, seen: &Snapshot) -> Result<(), Trouble> {
+    let bytes = chart_bytes(seen);
     let mut marks = [0; JOBS];
-    reduce(book, &mut marks)?;
-    for (job, mark) in Job::ALL.iter().zip(marks) {
-        if book.need(*job as usize) > 0 {
-            let name = job.name();
-            let word = word(mark == HELD);
+    reduce(&Chart::new(&bytes), &mut marks)?;
+    for (job, mark) in marks.iter().enumerate() {
+        if row_of(seen, job).need > 0 {
+            let name = name_of(job);
+            let word = word(*mark == HELD);
             print!(rt; "  {name}: ")?;
-            row(rt, book, *job)?;
+            row(rt, seen, job)?;
             println!(rt; " ({word})")?;
         }
     }

@@ -1,0 +1,119 @@
+// What is said of the calls of the day.
+use crate::day::Step;
+use crate::names::name_of;
+use crate::show::{row, waiting, word};
+use crate::trouble::Trouble;
+use book::{Answer, BookFault, Call, Edit, FinishedScript, Moment, Snapshot, StoppedScript};
+use detection::{Detection, Verdict};
+use std::io;
+
+// The row of a job before and after a call.
+fn change(rt: &HostRuntime, job: usize, before: &Snapshot, after: &Snapshot) -> io::Result<()> {
+    row(rt, before, job)?;
+    print!(rt; " -> ")?;
+    row(rt, after, job)?;
+    println!(rt; "")
+}
+
+// A request or a grant, with the waiting job's row before and after it.
+fn edited(rt: &HostRuntime, edit: Edit<'_>, before: &Snapshot, after: &Snapshot) -> io::Result<()> {
+    match edit {
+        Edit::Request { job, need, targets } => {
+            let name = name_of(job);
+            let count = targets.len();
+            print!(rt; "{name} asks for {need} of {count}: ")?;
+            change(rt, job, before, after)
+        }
+        Edit::Grant { granter, waiter } => {
+            let from = name_of(granter);
+            let to = name_of(waiter);
+            print!(rt; "{from} is done for {to}: ")?;
+            change(rt, waiter, before, after)
+        }
+    }
+}
+
+fn found(rt: &HostRuntime, job: usize, found: Detection) -> io::Result<()> {
+    let name = name_of(job);
+    let word = word(found.verdict == Verdict::Stuck);
+    let deliveries = found.deliveries;
+    println!(rt; "the detector is asked about the {name}: {word}, {deliveries} deliveries")
+}
+
+fn finished(rt: &HostRuntime, script: FinishedScript, bytes: &[u8]) -> io::Result<()> {
+    let commands = script.commands;
+    print!(rt; "a script is run; commands: {commands}, its answer:")?;
+    for byte in bytes.iter().take(script.written) {
+        print!(rt; " {byte}")?;
+    }
+    println!(rt; "")
+}
+
+fn stopped(rt: &HostRuntime, script: StoppedScript) -> io::Result<()> {
+    let number = script.fault.number();
+    let layer = script.fault.layer();
+    let offset = script.offset;
+    let index = script.index;
+    println!(rt;
+        "a script is stopped: refusal {number} of layer {layer}, at offset {offset}, command {index}"
+    )
+}
+
+fn refused(rt: &HostRuntime, fault: BookFault) -> io::Result<()> {
+    let number = fault.number();
+    println!(rt; "the book refuses: {number}")
+}
+
+// What a call answered. `bytes` begin with those that it wrote.
+fn answered(
+    rt: &HostRuntime,
+    call: Call<'_>,
+    before: &Snapshot,
+    moment: &Moment,
+    bytes: &[u8],
+) -> Result<(), Trouble> {
+    match (call, moment.answer) {
+        (Call::Edit(made), Answer::Edited(Ok(()))) => edited(rt, made, before, &moment.seen)?,
+        (Call::Detect { job }, Answer::Detected(Ok(answer))) => found(rt, job, answer)?,
+        (_, Answer::Detected(Err(fault))) => return Err(Trouble::NotDetected(fault)),
+        (_, Answer::Ran(Ok(script))) => finished(rt, script, bytes)?,
+        (_, Answer::Ran(Err(script))) => stopped(rt, script)?,
+        (_, Answer::Edited(Err(fault)) | Answer::Ended(Err(fault)) | Answer::Opened(Err(fault))) =>
+            { refused(rt, fault)? }
+        _ => {}
+    }
+    Ok(())
+}
+
+// A call of the day, with what is to be said after it.
+pub fn call(
+    rt: &HostRuntime,
+    step: &Step<'_>,
+    before: &Snapshot,
+    moment: &Moment,
+    bytes: &[u8],
+) -> Result<(), Trouble> {
+    answered(rt, step.call, before, moment, bytes)?;
+    if !step.said.is_empty() {
+        let said = step.said;
+        println!(rt; "{said}")?;
+    }
+    if step.lists {
+        waiting(rt, &moment.seen)?;
+    }
+    Ok(())
+}
+
+// The detections of the day alone, in one line: the word for each, and its deliveries.
+pub fn detections(rt: &HostRuntime, moments: &[Moment]) -> io::Result<()> {
+    let mut comma = "";
+    for moment in moments {
+        if let Answer::Detected(Ok(found)) = moment.answer {
+            let word = word(found.verdict == Verdict::Stuck);
+            let deliveries = found.deliveries;
+            print!(rt; "{comma} {word} ({deliveries})")?;
+            comma = ",";
+        }
+    }
+    println!(rt; "")
+}
