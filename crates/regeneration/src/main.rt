@@ -103,12 +103,12 @@ fn main(rt: HostRuntime) -> Result<(), Trouble> {
     let over_queue = live_over(&calls, &mut QueueCarrier::new(&mut cells))?;
     tell_all(&rt, &day, &over_queue)?;
     print!(rt; "the detector over a queue:")?;
-    tell::detections(&rt, &over_queue.moments)?;
+    tell::detections(&rt, &day, &over_queue.moments)?;
     let over_stack = live_over(&calls, &mut StackCarrier::new(&mut cells))?;
     print!(rt; "the same day over a stack:")?;
-    tell::detections(&rt, &over_stack.moments)?;
+    tell::detections(&rt, &day, &over_stack.moments)?;
     let over_picker = live_over(&calls, &mut Picker::new(&mut cells, &PICKS))?;
     print!(rt; "the same day over a picker:")?;
-    tell::detections(&rt, &over_picker.moments)?;
+    tell::detections(&rt, &day, &over_picker.moments)?;
     Ok(())
 }

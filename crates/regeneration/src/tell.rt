@@ -104,15 +104,17 @@ pub fn call(
     Ok(())
 }
 
-// The detections of the day alone, in one line: the word for each, and its deliveries.
-pub fn detections(rt: &HostRuntime, moments: &[Moment]) -> io::Result<()> {
-    let mut comma = "";
-    for moment in moments {
-        if let Answer::Detected(Ok(found)) = moment.answer {
+// The detections of the day alone, in one line: the word for each job that was asked about, and the deliveries.
+pub fn detections(rt: &HostRuntime, day: &[Step<'_>], moments: &[Moment]) -> io::Result<()> {
+    let mut first = true;
+    for (step, moment) in day.iter().zip(moments) {
+        if let (Call::Detect { job }, Answer::Detected(Ok(found))) = (step.call, moment.answer) {
+            let name = name_of(job);
             let word = word(found.verdict == Verdict::Stuck);
             let deliveries = found.deliveries;
-            print!(rt; "{comma} {word} ({deliveries})")?;
-            comma = ",";
+            let comma = if first { "" } else { "," };
+            print!(rt; "{comma} {name} {word} ({deliveries})")?;
+            first = false;
         }
     }
     println!(rt; "")
