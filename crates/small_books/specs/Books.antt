@@ -1,4 +1,4 @@
--- The small books, and the tables of what is to come of them.
+-- The small books, and the table of what is to come of them.
 use Rattle.std.specs.Prelude.{ℕ, Bool, true, false, List, [], ◌∷◌, None}
 use Rattle.rows.specs.Waiting.{Waiting, idle}
 use Rattle.groups.specs.State.{State}
@@ -38,21 +38,6 @@ pub record Asked : Type 0 where
   pub free : Bool
   pub deliveries : ℕ
 
-abbrev pub asked : List Waiting → (initiator : ℕ) → (free : Bool) → (deliveries : ℕ) → Asked
-asked rows initiator free deliveries = record { rows = rows; initiator = initiator; free = free; deliveries = deliveries }
-
-abbrev pub runs : List Asked
-runs =
-    asked one_job 0 true 0
-    ∷ asked b2 0 true 4
-    ∷ asked b2 1 true 2
-    ∷ asked b3 0 false 4
-    ∷ asked b4 0 true 12
-    ∷ asked b5 0 false 8
-    ∷ asked b6 0 true 6
-    ∷ asked b7 0 false 16
-    ∷ []
-
 -- A call on a book: its answer, and the rows after it.
 pub record Called : Type 0 where
   pub before : State Waiting
@@ -60,8 +45,16 @@ pub record Called : Type 0 where
   pub answer : Answer
   pub rows : List Waiting
 
-abbrev pub called : State Waiting → Call → Answer → List Waiting → Called
-called before call answer rows = record { before = before; call = call; answer = answer; rows = rows }
+-- A line of the table: a run, or a call.
+pub data Line : Type 0 where
+  of_run : Asked → Line
+  of_call : Called → Line
+
+abbrev pub asked : List Waiting → (initiator : ℕ) → (free : Bool) → (deliveries : ℕ) → Line
+asked rows initiator free deliveries = of_run (record { rows = rows; initiator = initiator; free = free; deliveries = deliveries })
+
+abbrev pub called : State Waiting → Call → Answer → List Waiting → Line
+called before call answer rows = of_call (record { before = before; call = call; answer = answer; rows = rows })
 
 -- B2 as a book with mark 7, a trail of one record and no open group; and the calls of its group.
 abbrev pub b2_book : State Waiting
@@ -70,9 +63,17 @@ b2_book = record { rows = b2; groups = []; mark = 7; room = 1 }
 abbrev pub b2_request : Call
 b2_request = edits (requests 1 1 (0 ∷ []))
 
-abbrev pub calls : List Called
-calls =
-    called b2_book opens (ticket 7 1) b2
+abbrev pub table : List Line
+table =
+    asked one_job 0 true 0
+    ∷ asked b2 0 true 4
+    ∷ asked b2 1 true 2
+    ∷ asked b3 0 false 4
+    ∷ asked b4 0 true 12
+    ∷ asked b5 0 false 8
+    ∷ asked b6 0 true 6
+    ∷ asked b7 0 false 16
+    ∷ called b2_book opens (ticket 7 1) b2
     ∷ called (after b2_book opens) b2_request done b3
     ∷ called (after (after b2_book opens) b2_request) (cancels 7 1) done b2
     ∷ called b2_book (edits (grants 1 0)) done (idle ∷ idle ∷ [])

@@ -1,11 +1,11 @@
--- What the tables of small books say.
+-- What the table of small books says.
 use Rattle.std.specs.Prelude.{◌≡◌, List, [], length, slice_index_or}
 use Rattle.std.specs.List.{AllByRecursion}
 use Rattle.carriers.specs.declared.message.Message.{Message}
 use Rattle.exchange.specs.Records.{blank}
 use Rattle.exchange.specs.Runs.{State, Exchange}
 use Rattle.book.specs.Answers.{says, after}
-use Rattle.small_books.specs.Books.{Asked, runs, Called, calls}
+use Rattle.small_books.specs.Books.{Asked, Called, Line, of_run, of_call, table}
 
 -- Every run that is over has had so many deliveries, in whatever order they came, and leaves the initiator free or not, as told;
 -- and there is such a run.
@@ -19,5 +19,9 @@ pub record Answers (c : Called) : Type 0 where
   pub answer : says c.before c.call ≡ c.answer
   pub rows : (after c.before c.call).rows ≡ c.rows
 
+abbrev pub Holds : Line → Type 0
+Holds (of_run a) = Tells a
+Holds (of_call c) = Answers c
+
 abbrev pub SmallBooksHold : Type 0
-SmallBooksHold = AllByRecursion Tells runs × AllByRecursion Answers calls
+SmallBooksHold = AllByRecursion Holds table

@@ -1,4 +1,4 @@
-// The tables of small books, run as books over all three carriers.
+// The table of small books, run as books over all three carriers.
 use book::{Book, Old, PlainRow};
 use carriers::{Carrier, Kind, Message, Picker, QueueCarrier, StackCarrier, Wait};
 use detection::{Detection, RunRecord, Verdict, detect};
