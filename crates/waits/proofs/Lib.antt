@@ -1,0 +1,2 @@
+mod Outcomes
+mod Pieces

@@ -1,0 +1,21 @@
+// Reading a script.
+ghost use Rattle.std.specs.Prelude.{◌≡◌, ◌≤◌, length, take, IfOk, IfSome};
+
+use std::io;
+use std::io::Read;
+
+// Reads to the end of the input, but no more bytes than there is memory for; tells how many.
+pub fn read_up_to<R: Read>(reader: &mut R, memory: &mut [u8]) -> io::Result<usize>
+    ensures bound { IfOk result (λ n. n ≤ length memory.new) }
+    ensures bytes { IfOk result (λ n. IfSome (R.remaining reader.old) (λ bs. take n memory.new ≡ take (length memory.old) bs)) }
+{
+    let mut count = 0;
+    while count < memory.len() {
+        let read = reader.read(&mut memory[count..])?;
+        if read == 0 {
+            break;
+        }
+        count += read;
+    }
+    Ok(count)
+}

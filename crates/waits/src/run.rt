@@ -1,0 +1,45 @@
+// Running a script on a new book.
+ghost use Rattle.std.specs.Prelude.{◌≡◌, ◌≤◌, length};
+ghost use Rattle.waits.specs.Outcome.{ComesOut, written};
+
+use book::{Book, FinishedScript, JOBS_MAX, Old, PlainRow, StoppedScript, TARGETS_MAX, TRAIL_MAX};
+use carriers::{Kind, Message, QueueCarrier, Wait};
+use detection::{CAPACITY_PER_WAIT, RunRecord};
+
+// The mark of the book's tickets: any, since no ticket leaves the script.
+const MARK: u16 = 7;
+
+// Room for the messages of a detection, however many waits there are.
+const QUEUE: usize = CAPACITY_PER_WAIT * JOBS_MAX * TARGETS_MAX;
+
+// Runs a script on a new book of as many jobs as there can be, and tells how it ends.
+pub fn run(script: &[u8], answers: &mut [u8]) -> Result<FinishedScript, StoppedScript>
+    ensures comes_out { ComesOut script.now answers.old result answers.new }
+    ensures written { written result ≤ length answers.new }
+{
+    let mut trail = [Old {
+        job: 0,
+        row: PlainRow::idle(),
+    }; TRAIL_MAX];
+    let mut book = Book::new(JOBS_MAX, MARK, &mut trail);
+    let mut records = [RunRecord::blank(); JOBS_MAX];
+    let mut cells = [Message {
+        kind: Kind::Notify,
+        wait: Wait {
+            waiter: 0,
+            target: 0,
+        },
+    }; QUEUE];
+    let mut carrier = QueueCarrier::new(&mut cells);
+    book.run_script(script, &mut records, &mut carrier, answers)
+}
+
+// How many answer bytes a script has written.
+pub fn written_by(outcome: &Result<FinishedScript, StoppedScript>) -> usize
+    ensures { result ≡ written outcome.now }
+{
+    match outcome {
+        Ok(finished) => finished.written,
+        Err(stopped) => stopped.written,
+    }
+}

@@ -1,0 +1,125 @@
+// The line that a fault prints, and reading in pieces.
+use crate::input::read_up_to;
+use crate::trouble::Trouble;
+use book::{BookFault, ScriptFault, StoppedScript};
+use detection::DetectionFault;
+use std::io;
+use std::io::{ErrorKind, Read};
+use std::test::Fail;
+
+fn stopped(fault: ScriptFault) -> Trouble {
+    Trouble::Stopped(StoppedScript {
+        fault,
+        offset: 12,
+        index: 3,
+        written: 8,
+    })
+}
+
+#[test]
+fn tells_refusals_of_the_script_and_the_detection(rt: HostRuntime) -> Result<(), Fail> {
+    let cases = [
+        (
+            ScriptFault::TooLong,
+            "refusal 13, the script is too long; layer 0, script",
+        ),
+        (
+            ScriptFault::UnknownLetter,
+            "refusal 14, no command has this letter; layer 0, script",
+        ),
+        (
+            ScriptFault::CutOff,
+            "refusal 15, the script ends inside a command; layer 0, script",
+        ),
+        (
+            ScriptFault::NoScriptGroup,
+            "refusal 16, no group of the script is open; layer 0, script",
+        ),
+        (
+            ScriptFault::NoAnswerSpace,
+            "refusal 17, no space is left for the answer; layer 0, script",
+        ),
+        (
+            ScriptFault::OfDetection(DetectionFault::NoSuchJob),
+            "refusal 1, there is no such job; layer 2, detection",
+        ),
+        (
+            ScriptFault::OfDetection(DetectionFault::TooFewRecords),
+            "refusal 10, there are fewer records than jobs; layer 2, detection",
+        ),
+        (
+            ScriptFault::OfDetection(DetectionFault::MessagesWait),
+            "refusal 11, messages wait in the carrier; layer 2, detection",
+        ),
+        (
+            ScriptFault::OfDetection(DetectionFault::CarrierTooSmall),
+            "refusal 12, the carrier is too small; layer 2, detection",
+        ),
+    ];
+    for (fault, start) in cases {
+        let trouble = stopped(fault);
+        let line = format!(in rt.alloc(); "{trouble:?}")?;
+        assert_eq!(rt;
+            line.as_str().strip_suffix("; offset 12; index 3"),
+            Some(start)
+        );
+    }
+    Ok(())
+}
+
+#[test]
+fn tells_refusals_of_the_book(rt: HostRuntime) -> Result<(), Fail> {
+    let cases = [
+        (BookFault::NoSuchJob, "1, there is no such job"),
+        (BookFault::Blocked, "2, the job is blocked"),
+        (
+            BookFault::WrongCounts,
+            "3, the need or the number of targets is wrong",
+        ),
+        (BookFault::TrailFull, "5, the trail is full"),
+        (BookFault::GranterBlocked, "6, the granter is blocked"),
+        (
+            BookFault::NoSuchWait,
+            "7, the waiter does not wait for the granter",
+        ),
+        (BookFault::TooDeep, "8, too many groups are open"),
+        (
+            BookFault::NotInnermost,
+            "9, the ticket is not that of the innermost group",
+        ),
+    ];
+    for (fault, words) in cases {
+        let trouble = stopped(ScriptFault::OfBook(fault));
+        let line = format!(in rt.alloc(); "{trouble:?}")?;
+        let wanted = format!(in rt.alloc(); "refusal {words}; layer 1, book; offset 12; index 3")?;
+        assert_eq!(rt; line.as_str(), wanted.as_str());
+    }
+    let trouble = stopped(ScriptFault::OfBook(BookFault::WrongTarget(15)));
+    let line = format!(in rt.alloc(); "{trouble:?}")?;
+    let wanted = "refusal 4, a target is wrong; layer 1, book; offset 12; index 3; value 15";
+    assert_eq!(rt; line.as_str(), wanted);
+    Ok(())
+}
+
+// A reader that fails.
+#[derive(Drop)]
+struct Broken;
+
+impl Read for Broken {
+    fn read(&mut self, _buf: &mut [u8]) -> io::Result<usize> {
+        Err(io::Error::from(ErrorKind::Other))
+    }
+}
+
+#[test]
+fn reads_pieces_to_the_end_or_to_a_failure(rt: HostRuntime) -> Result<(), Fail> {
+    let first: &[u8] = b"OO";
+    let second: &[u8] = b"KKC";
+    let mut memory = [0; 8];
+    let count = read_up_to(&mut first.chain(second), &mut memory)?;
+    assert_eq!(rt; count, 5);
+    assert_eq!(rt; &memory, b"OOKKC\0\0\0");
+    assert_eq!(rt; read_up_to(&mut first.chain(second), &mut memory[..4])?, 4);
+    assert!(rt; read_up_to(&mut first.chain(Broken), &mut memory).is_err());
+    Ok(())
+}
