@@ -17,52 +17,55 @@ fn stopped(fault: ScriptFault) -> Trouble {
 }
 
 #[test]
-fn tells_refusals_of_the_script_and_the_detection(rt: HostRuntime) -> Result<(), Fail> {
+fn tells_refusals_of_the_script(rt: HostRuntime) -> Result<(), Fail> {
     let cases = [
-        (
-            ScriptFault::TooLong,
-            "refusal 13, the script is too long; layer 0, script",
-        ),
-        (
-            ScriptFault::UnknownLetter,
-            "refusal 14, no command has this letter; layer 0, script",
-        ),
-        (
-            ScriptFault::CutOff,
-            "refusal 15, the script ends inside a command; layer 0, script",
-        ),
+        (ScriptFault::TooLong, "13, the script is too long"),
+        (ScriptFault::UnknownLetter, "14, no command has this letter"),
+        (ScriptFault::CutOff, "15, the script ends inside a command"),
         (
             ScriptFault::NoScriptGroup,
-            "refusal 16, no group of the script is open; layer 0, script",
+            "16, no group of the script is open",
         ),
         (
             ScriptFault::NoAnswerSpace,
-            "refusal 17, no space is left for the answer; layer 0, script",
-        ),
-        (
-            ScriptFault::OfDetection(DetectionFault::NoSuchJob),
-            "refusal 1, there is no such job; layer 2, detection",
-        ),
-        (
-            ScriptFault::OfDetection(DetectionFault::TooFewRecords),
-            "refusal 10, there are fewer records than jobs; layer 2, detection",
-        ),
-        (
-            ScriptFault::OfDetection(DetectionFault::MessagesWait),
-            "refusal 11, messages wait in the carrier; layer 2, detection",
-        ),
-        (
-            ScriptFault::OfDetection(DetectionFault::CarrierTooSmall),
-            "refusal 12, the carrier is too small; layer 2, detection",
+            "17, no space is left for the answer",
         ),
     ];
-    for (fault, start) in cases {
+    for (fault, words) in cases {
         let trouble = stopped(fault);
         let line = format!(in rt.alloc(); "{trouble:?}")?;
-        assert_eq!(rt;
-            line.as_str().strip_suffix("; offset 12; index 3"),
-            Some(start)
-        );
+        let wanted = format!(in rt.alloc();
+            "refusal {words}; layer 0, script; offset 12; index 3"
+        )?;
+        assert_eq!(rt; line.as_str(), wanted.as_str());
+    }
+    Ok(())
+}
+
+#[test]
+fn tells_refusals_of_the_detection(rt: HostRuntime) -> Result<(), Fail> {
+    let cases = [
+        (DetectionFault::NoSuchJob, "1, there is no such job"),
+        (
+            DetectionFault::TooFewRecords,
+            "10, there are fewer records than jobs",
+        ),
+        (
+            DetectionFault::MessagesWait,
+            "11, messages wait in the carrier",
+        ),
+        (
+            DetectionFault::CarrierTooSmall,
+            "12, the carrier is too small",
+        ),
+    ];
+    for (fault, words) in cases {
+        let trouble = stopped(ScriptFault::OfDetection(fault));
+        let line = format!(in rt.alloc(); "{trouble:?}")?;
+        let wanted = format!(in rt.alloc();
+            "refusal {words}; layer 2, detection; offset 12; index 3"
+        )?;
+        assert_eq!(rt; line.as_str(), wanted.as_str());
     }
     Ok(())
 }
