@@ -16,13 +16,13 @@ use book::SCRIPT_MAX;
 // One byte more than a script can have, so that one that is too long is seen to be so.
 const INPUT_MAX: usize = SCRIPT_MAX + 1;
 
-// Four bytes for each detection; of these, at two bytes each, the longest script has half as many as bytes.
-const ANSWERS: usize = 16_384;
+// Enough for the longest script: it has a detection for every two bytes at most, and each writes four.
+const PROGRAM_ANSWERS: usize = 16_384;
 
 fn main(rt: HostRuntime) -> Result<(), Trouble> {
     let mut input = [0; INPUT_MAX];
     let count = read_up_to(&mut rt.stdin(), &mut input).map_err(Trouble::Input)?;
-    let mut answers = [0; ANSWERS];
+    let mut answers = [0; PROGRAM_ANSWERS];
     let outcome = run(&input[..count], &mut answers);
     // written after a fault too: what finished detections wrote stays
     rt.write_all(&answers[..written_by(&outcome)])

@@ -6,13 +6,18 @@ use book::{Book, FinishedScript, JOBS_MAX, Old, PlainRow, StoppedScript, TARGETS
 use carriers::{Kind, Message, QueueCarrier, Wait};
 use detection::{CAPACITY_PER_WAIT, RunRecord};
 
-// The mark of the book's tickets: any, since no ticket leaves the script.
-const MARK: u16 = 7;
+// As many jobs as a book can have, and as many old rows as a trail can.
+const PROGRAM_JOBS: usize = JOBS_MAX;
+
+const PROGRAM_TRAIL: usize = TRAIL_MAX;
 
 // Room for the messages of a detection, however many waits there are.
-const QUEUE: usize = CAPACITY_PER_WAIT * JOBS_MAX * TARGETS_MAX;
+const PROGRAM_QUEUE: usize = CAPACITY_PER_WAIT * JOBS_MAX * TARGETS_MAX;
 
-// Runs a script on a new book of as many jobs as there can be, and tells how it ends.
+// The mark of the book's tickets: any, since a script hands none out.
+const MARK: u16 = 7;
+
+// Runs a script on a new book, and tells how it ends.
 pub fn run(script: &[u8], answers: &mut [u8]) -> Result<FinishedScript, StoppedScript>
     ensures comes_out { ComesOut script.now answers.old result answers.new }
     ensures written { written result ≤ length answers.new }
@@ -20,16 +25,16 @@ pub fn run(script: &[u8], answers: &mut [u8]) -> Result<FinishedScript, StoppedS
     let mut trail = [Old {
         job: 0,
         row: PlainRow::idle(),
-    }; TRAIL_MAX];
-    let mut book = Book::new(JOBS_MAX, MARK, &mut trail);
-    let mut records = [RunRecord::blank(); JOBS_MAX];
+    }; PROGRAM_TRAIL];
+    let mut book = Book::new(PROGRAM_JOBS, MARK, &mut trail);
+    let mut records = [RunRecord::blank(); PROGRAM_JOBS];
     let mut cells = [Message {
         kind: Kind::Notify,
         wait: Wait {
             waiter: 0,
             target: 0,
         },
-    }; QUEUE];
+    }; PROGRAM_QUEUE];
     let mut carrier = QueueCarrier::new(&mut cells);
     book.run_script(script, &mut records, &mut carrier, answers)
 }
