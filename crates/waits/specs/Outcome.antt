@@ -1,5 +1,5 @@
 -- What comes of a script that the program runs.
-use Rattle.std.specs.Prelude.{ℕ, List, replicate, Result, Ok, Err}
+use Rattle.std.specs.Prelude.{ℕ, List, replicate, Result}
 use Rattle.carriers.specs.Orders.{new_carrier}
 use Rattle.exchange.specs.Records.{blank}
 use Rattle.exchange.specs.declared.record.RunRecord.{RunRecord}
@@ -24,8 +24,3 @@ pub record ComesOut (script bytes : List ℕ) (answer : Result FinishedScript St
   pub records : List RunRecord
   pub carrier : Carried
   pub scripted : Scripted (of_history program_terms) begun (lent (replicate 256 blank) (new_carrier 8192) bytes) script answer history (lent records carrier bytes')
-
--- How many answer bytes are written.
-abbrev pub written : Result FinishedScript StoppedScript → ℕ
-written (Ok finished) = finished.written
-written (Err stopped) = stopped.written

@@ -1,6 +1,7 @@
 // Running a script on a new book.
 ghost use Rattle.std.specs.Prelude.{◌≡◌, ◌≤◌, length};
-ghost use Rattle.waits.specs.Outcome.{ComesOut, written};
+ghost use Rattle.book.specs.ScriptRuns.{script_written};
+ghost use Rattle.waits.specs.Outcome.{ComesOut};
 
 use book::{Book, FinishedScript, JOBS_MAX, Old, PlainRow, StoppedScript, TARGETS_MAX, TRAIL_MAX};
 use carriers::{Kind, Message, QueueCarrier, Wait};
@@ -20,7 +21,7 @@ const MARK: u16 = 7;
 // Runs a script on a new book, and tells how it ends.
 pub fn run(script: &[u8], answers: &mut [u8]) -> Result<FinishedScript, StoppedScript>
     ensures comes_out { ComesOut script.now answers.old result answers.new }
-    ensures written { written result ≤ length answers.new }
+    ensures written { script_written result ≤ length answers.new }
 {
     let mut trail = [Old {
         job: 0,
@@ -41,7 +42,7 @@ pub fn run(script: &[u8], answers: &mut [u8]) -> Result<FinishedScript, StoppedS
 
 // How many answer bytes a script has written.
 pub fn written_by(outcome: &Result<FinishedScript, StoppedScript>) -> usize
-    ensures { result ≡ written outcome.now }
+    ensures { result ≡ script_written outcome.now }
 {
     match outcome {
         Ok(finished) => finished.written,

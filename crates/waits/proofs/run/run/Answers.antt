@@ -1,10 +1,7 @@
 use Rattle.std.proofs.Common.{ap, replicate}
-use Rattle.waits.proofs.Outcomes.{comes_out, written_within}
+use Rattle.waits.proofs.Outcomes.{comes_out}
 use Rattle.waits.proofs.run.run.Goals as goal
 
 pub returns-clause-comes_out : goal.returns-clause-comes_out
 returns-clause-comes_out c =
-    comes_out c.new-book.ensures.value c.new-book.ensures.shows (ap (replicate 256) c.blank-records.ensures) c.new-carrier.ensures c.run_script.ensures
-
-pub returns-clause-written : goal.returns-clause-written
-returns-clause-written c = written_within c.run_script.ensures
+    comes_out c.new-book.ensures.value c.new-book.ensures.shows (ap (replicate 256) c.blank-records.ensures) c.new-carrier.ensures c.run_script.ensures.ran
