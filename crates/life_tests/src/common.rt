@@ -1,0 +1,133 @@
+// What the tests share: steps of a life, and what is lent to it.
+use book::{
+    Answer, BookFault, Call, Creation, Edit, Ending, FinishedScript, Moment, Old, PlainRow,
+    ScriptFault, Snapshot, StoppedScript, Stub,
+};
+use carriers::{Kind, Message, Wait};
+use detection::{Detection, RunRecord, Verdict};
+use std::process::Abort;
+
+// The mark of every book here.
+pub const MARK: u16 = 7;
+
+// What lent bytes and records hold before a life.
+pub const UNTOUCHED: u8 = 99;
+
+// The need and the targets of a job.
+pub type Waits = (u8, &'static [u8]);
+
+// The row of an active job.
+pub const ACTIVE: Waits = (0, &[]);
+
+// A call, what it answers, and the rows and the depth that are seen after it.
+pub type Step = (Call<'static>, Answer, &'static [Waits], usize);
+
+// The answer of an edit and of an ending that are accepted.
+pub const DONE: Answer = Answer::Edited(Ok(()));
+
+pub const ENDED: Answer = Answer::Ended(Ok(()));
+
+// The answer of an ending whose stub does not fit.
+pub const NOT_ENDED: Answer = Answer::Ended(Err(BookFault::NotInnermost));
+
+pub fn request(job: usize, need: u8, targets: &'static [u8]) -> Call<'static> {
+    Call::Edit(Edit::Request { job, need, targets })
+}
+
+pub fn grant(granter: usize, waiter: usize) -> Call<'static> {
+    Call::Edit(Edit::Grant { granter, waiter })
+}
+
+pub fn run(script: &'static [u8]) -> Call<'static> {
+    Call::Run { script }
+}
+
+pub fn detect(job: usize) -> Call<'static> {
+    Call::Detect { job }
+}
+
+pub fn ends(ending: Ending, mark: u16, depth: u8) -> Call<'static> {
+    let stub = Stub { mark, depth };
+    Call::End { ending, stub }
+}
+
+pub fn opened(depth: u8) -> Answer {
+    Answer::Opened(Ok(Stub { mark: MARK, depth }))
+}
+
+pub fn found(verdict: Verdict, deliveries: u32) -> Answer {
+    Answer::Detected(Ok(Detection {
+        verdict,
+        deliveries,
+    }))
+}
+
+pub fn finished(commands: usize, cancelled: usize, written: usize) -> Answer {
+    Answer::Ran(Ok(FinishedScript {
+        commands,
+        cancelled,
+        written,
+    }))
+}
+
+pub fn stopped(fault: ScriptFault, offset: usize, index: usize, written: usize) -> Answer {
+    Answer::Ran(Err(StoppedScript {
+        fault,
+        offset,
+        index,
+        written,
+    }))
+}
+
+// What creation takes here.
+pub fn creation(jobs: usize, trail: &mut [Old<PlainRow>]) -> Creation<'_> {
+    Creation {
+        jobs,
+        mark: MARK,
+        trail,
+    }
+}
+
+// Memory for a trail of N old rows.
+pub fn trail<const N: usize>() -> [Old<PlainRow>; N] {
+    [Old {
+        job: 0,
+        row: PlainRow::idle(),
+    }; N]
+}
+
+// A message that no carrier has been given yet.
+pub fn empty_message() -> Message {
+    Message {
+        kind: Kind::Notify,
+        wait: Wait {
+            waiter: 0,
+            target: 0,
+        },
+    }
+}
+
+// Records that no run has touched.
+pub fn untouched<const N: usize>() -> [RunRecord; N] {
+    [RunRecord {
+        granted: UNTOUCHED as u16,
+        ..RunRecord::blank()
+    }; N]
+}
+
+// These rows and no others are seen, and so many open groups.
+pub fn is_seen(seen: &Snapshot, rows: &[Waits], depth: usize) -> bool {
+    seen.depth() == depth
+        && seen.rows().len() == rows.len()
+        && seen.rows().iter().zip(rows).all(|(row, waits)| {
+            row.need == waits.0 && row.targets.get(..row.count as usize) == Some(waits.1)
+        })
+}
+
+// The moments are as the steps say.
+pub fn come_out(rt: &impl Abort, steps: &[Step], moments: &[Moment]) {
+    for (step, moment) in steps.iter().zip(moments) {
+        assert_eq!(rt; moment.answer, step.1);
+        assert!(rt; is_seen(&moment.seen, step.2, step.3));
+    }
+}
