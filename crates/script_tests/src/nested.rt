@@ -1,6 +1,7 @@
 // Groups of a script, and those of its book.
 use crate::common::*;
-use book::Book;
+use book::{Book, DEPTH_MAX};
+use std::process::Abort;
 use std::test::Fail;
 
 // All eight are cancelled. A group of the book's own is among the eight, and stays open.
@@ -27,6 +28,25 @@ fn ninth_opening_is_too_deep(rt: HostRuntime) -> Result<(), Fail> {
     }
     assert_eq!(rt; ended(book.keep(ticket)), 0);
     Ok(())
+}
+
+// Opens so many groups with tickets of its own, inside which a script's first command is stopped.
+fn full_book_is_too_deep(rt: &impl Abort, book: &mut Book, more: u8) -> Result<(), Fail> {
+    if more == 0 {
+        ends(rt, book, b"O", ENOUGH, End::Stopped(8, 1, 0, 0, 0), b"");
+        return Ok(());
+    }
+    let ticket = opened(book)?;
+    let inside = full_book_is_too_deep(rt, book, more - 1);
+    assert_eq!(rt; ended(book.keep(ticket)), 0);
+    inside
+}
+
+#[test]
+fn ninth_opening_is_too_deep_at_once(rt: HostRuntime) -> Result<(), Fail> {
+    let mut memory = trail::<1>();
+    let mut book = Book::new(JOBS, 7, &mut memory);
+    full_book_is_too_deep(&rt, &mut book, DEPTH_MAX as u8)
 }
 
 // A trail of one record: outside of groups no edit takes it; a kept group hands it on, and a cancelled one frees it.
