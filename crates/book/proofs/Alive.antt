@@ -8,7 +8,7 @@ use Rattle.exchange.specs.declared.record.RunRecord.{RunRecord}
 use Rattle.rows.specs.Waiting.{Waiting}
 use Rattle.groups.specs.State.{State}
 use Rattle.book.specs.Events.{Event, Life, begins, lives}
-use Rattle.book.specs.Law.{new_book, new_terms}
+use Rattle.book.specs.Law.{new_book}
 use Rattle.book.specs.Lent.{Lent}
 use Rattle.book.specs.Moments.{answer_at, seen_at, written_by, Happened, nothing, then, Lived}
 use Rattle.book.specs.Performing.{Performed}
@@ -62,17 +62,22 @@ module _ (jobs mark memory : ℕ) (before : Lent) where
       }
 
   -- at the end the law tells the history
-  pub alive_lived : {ks : List Call} {ms : List Moment} {s : State Waiting} {records : List RunRecord} {carrier : Carried} {answers : List ℕ} {written : ℕ}
-      → Alive ks ms s records carrier answers written → Lived (new_terms jobs mark memory) ks ms before (lent records carrier answers)
-  alive_lived {records = records} {carrier = carrier} {answers = answers} {written = written} alive =
-      let told = (law_of_lives jobs mark memory).1 alive.events _ _ alive.life in
+  pub alive_lived : {ks : List Call} {ms : List Moment} {s : State Waiting} {records : List RunRecord} {carrier : Carried} {answers : List ℕ} {written : ℕ} (first : Snapshot)
+      → snapshot_view first ≡ view_of of_book (new_book jobs mark memory)
+      → Alive ks ms s records carrier answers written → Lived jobs mark memory ks first ms before (lent records carrier answers)
+  alive_lived {s = s} {records = records} {carrier = carrier} {answers = answers} {written = written} first seen alive =
+      let law = law_of_lives jobs mark memory in
+      let told = law.1 alive.events _ _ alive.life in
       record {
         events = alive.events;
         bytes = take written answers;
         left = lent records carrier (drop written answers);
         happened = alive.happened;
+        book = s;
+        lived = alive.life;
         history = told.0;
-        life = told.1;
+        follows = told.1;
+        created = seen ∙ law.0;
         lent = ap (lent records carrier) (sym (take-append-drop written answers));
       }
 

@@ -68,6 +68,15 @@ stub_told : (q : Bool) (m d : ℕ) → told_stub (ok_or (cond {A = Option Stub} 
 stub_told true m d = refl
 stub_told false m d = refl
 
+-- an ending's answer, by the stub that comes back or does not
+abbrev pub told_stub_return : Result (Unit {0}) Stub → Answer
+told_stub_return (Ok u) = done
+told_stub_return (Err k) = returned (number NotInnermost) k.mark k.depth
+
+pub stub_returned : (q : Bool) (k : Stub) (r : Result (Unit {0}) Stub) → r ≡ cond q (Ok tt) (Err k) → told_stub_return r ≡ cond q done (returned (number NotInnermost) k.mark k.depth)
+stub_returned true k r e = ap told_stub_return e
+stub_returned false k r e = ap told_stub_return e
+
 -- an ending's answer, by the ticket that comes back or does not
 abbrev pub told_return : Result (Unit {0}) Returned → Answer
 told_return (Ok u) = done
@@ -108,14 +117,14 @@ module _ (n : ℕ) (s t : State PlainRow) where
       (ap (view n waiting) f ∙ view_if n (fits s k) (cancelled s) s)
 
   -- an ending without a ticket
-  pub end_called : n ≤ length s.rows → (e : Ending) (k : Stub) (a : Answer) → (b : Bool) → b ≡ innermost s.mark (face s) k.mark k.depth → t ≡ cond (innermost s.mark (face s) k.mark k.depth) (ended_as e s) s → a ≡ cond b done (returned (number NotInnermost) k.mark k.depth) → Called (view n waiting s) (ends e k.mark k.depth) a (view n waiting t)
-  end_called l e k a b h f g = go e f
+  pub end_called : n ≤ length s.rows → (e : Ending) (k : Stub) (a : Answer) → t ≡ cond (innermost s.mark (face s) k.mark k.depth) (ended_as e s) s → a ≡ cond (innermost s.mark (face s) k.mark k.depth) done (returned (number NotInnermost) k.mark k.depth) → Called (view n waiting s) (ends e k.mark k.depth) a (view n waiting t)
+  end_called l e k a f g = go e f
     where
       ticket_of : Ticket
       ticket_of = record { mark = k.mark; depth = k.depth }
 
       told_so : a ≡ told_return (ended s ticket_of)
-      told_so = g ∙ ap (λ q. cond q done (returned (number NotInnermost) k.mark k.depth)) h ∙ sym (end_told (fits s ticket_of) ticket_of)
+      told_so = g ∙ sym (end_told (fits s ticket_of) ticket_of)
 
       go : (e : Ending) → t ≡ cond (innermost s.mark (face s) k.mark k.depth) (ended_as e s) s → Called (view n waiting s) (ends e k.mark k.depth) a (view n waiting t)
       go Keep p = keep_called ticket_of _ a refl p told_so

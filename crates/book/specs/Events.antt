@@ -13,7 +13,8 @@ use Rattle.book.specs.Subjects.{Subject, View, view_of}
 use Rattle.book.specs.declared.script.fault.StoppedScript.{StoppedScript}
 use Rattle.book.specs.declared.script.fault.FinishedScript.{FinishedScript}
 
--- A call and its answer; to a detection and a script memory is lent, which may be other memory each time: what was in it before and after.
+-- A call and its answer. To a detection and to a script memory is lent, each time perhaps another: the event tells what it held before
+-- and after.
 pub data Event : Type 0 where
   made : Call → Answer → Event
   detected : (job : ℕ) (was : List RunRecord) (before : Carried) → Result Detection DetectionFault → (is : List RunRecord) (after : Carried) → Event

@@ -10,10 +10,11 @@ use Rattle.book.specs.History.{Terms}
 use Rattle.book.specs.Limits.{created}
 use Rattle.book.specs.Subjects.{of_book, of_history, View, view_of}
 
--- What creation is told: the number of jobs, the mark, and how many old rows the trail's memory holds.
+-- A new book, by what creation takes: how many jobs are asked for, the mark, and how many old rows the lent memory holds.
 abbrev pub new_book : (jobs mark memory : ℕ) → State Waiting
 new_book jobs mark memory = fresh (created jobs) idle mark memory
 
+-- What its history is told.
 abbrev pub new_terms : (jobs mark memory : ℕ) → Terms
 new_terms jobs mark memory = record { jobs = created jobs; mark = mark; room = min memory trail_max }
 

@@ -4,23 +4,27 @@ use Rattle.carriers.specs.Meaning.{Carried}
 use Rattle.exchange.specs.declared.record.RunRecord.{RunRecord}
 use Rattle.groups.specs.declared.store.Ending.{Ending}
 use Rattle.groups.specs.declared.store.Stub.{Stub}
+use Rattle.rows.specs.Waiting.{Waiting}
 use Rattle.groups.specs.History.{History, begun}
+use Rattle.groups.specs.State.{State}
 use Rattle.detection.specs.declared.fault.DetectionFault.{DetectionFault}
 use Rattle.detection.specs.declared.verdict.Detection.{Detection}
 use Rattle.book.specs.Calls.{Edit, edits, opens, ends}
 use Rattle.book.specs.Events.{Event, made, detected, scripted, Life}
-use Rattle.book.specs.History.{Terms}
+use Rattle.book.specs.Law.{new_book, new_terms}
 use Rattle.book.specs.Lent.{Lent}
 use Rattle.book.specs.ScriptRuns.{script_written}
 use Rattle.book.specs.Snapshots.{snapshot_view}
-use Rattle.book.specs.Subjects.{of_history, View}
+use Rattle.book.specs.Subjects.{of_book, of_history, View, view_of}
 use Rattle.book.specs.Views.{edit_of, told, told_stub, told_ending_by}
 use Rattle.book.specs.declared.fault.BookFault.{BookFault}
+use Rattle.book.specs.declared.fault.RefusedStub.{RefusedStub}
 use Rattle.book.specs.declared.life.call.Answer.{Answer}
 use Rattle.book.specs.declared.life.call.Answer.TheVariants.{Opened, Ended, Detected, Edited, Ran}
 use Rattle.book.specs.declared.life.call.Call.{Call}
 use Rattle.book.specs.declared.life.call.Call.TheVariants.{Open, End, Detect, Edit as Make, Run}
 use Rattle.book.specs.declared.life.moment.Moment.{Moment}
+use Rattle.book.specs.declared.snapshot.Snapshot.{Snapshot}
 use Rattle.book.specs.declared.script.fault.FinishedScript.{FinishedScript}
 use Rattle.book.specs.declared.script.fault.StoppedScript.{StoppedScript}
 
@@ -42,7 +46,7 @@ written_by (Ran r) = script_written r
 -- A call with its answer is an event; `before` is what is lent to it, and `after` what is left.
 pub data Happens : (before : Lent) → Call → Answer → Event → (after : Lent) → Type 0 where
   opening : {l : Lent} {r : Result Stub BookFault} → Happens l Open (Opened r) (made opens (told_stub r)) l
-  ending : {l : Lent} {e : Ending} {k : Stub} {r : Result (Unit {0}) BookFault} → Happens l (End e k) (Ended r) (made (ends e k.mark k.depth) (told_ending_by k r)) l
+  ending : {l : Lent} {e : Ending} {k : Stub} {r : Result (Unit {0}) RefusedStub} → Happens l (End e k) (Ended r) (made (ends e k.mark k.depth) (told_ending_by r)) l
   detecting : {l : Lent} {job : ℕ} {r : Result Detection DetectionFault} {is : List RunRecord} {after : Carried}
       → Happens l (Detect job) (Detected r) (detected job l.records l.carrier r is after) (record { records = is; carrier = after; bytes = l.bytes })
   editing : {l : Lent} {e : _} {r : Result (Unit {0}) BookFault} → Happens l (Make e) (Edited r) (made (edits (edit_of e)) (told r)) l
@@ -60,14 +64,18 @@ pub data Happened (first : Lent) : List Call → List Answer → List Event → 
       → Happened first ks rs es bytes l → Happens l k a e m
       → Happened first (ks ++ k ∷ []) (rs ++ a ∷ []) (es ++ e ∷ []) (bytes ++ take (written_by a) m.bytes) (unwritten a m)
 
--- A whole life was lived: the calls happened, with the answers given back; the same happened to a history, by the rules; and what
--- is given back as seen was seen of that history, at creation and after each call.
-pub record Lived (t : Terms) (calls : List Call) (moments : List Moment) (before after : Lent) : Type 0 where
+-- A whole life was lived: the calls happened, with the answers given back; all this happened to a book, from its creation on, and to the
+-- history that was told the same at creation, both by the rules; and what is given back as seen was seen of them, at creation and after
+-- each call.
+pub record Lived (jobs mark memory : ℕ) (calls : List Call) (first : Snapshot) (moments : List Moment) (before after : Lent) : Type 0 where
   pub events : List Event
   pub bytes : List ℕ
   pub left : Lent
   pub happened : Happened before calls (map answer_at moments) events bytes left
+  pub book : State Waiting
+  pub lived : Life of_book (new_book jobs mark memory) events (map seen_at moments) book
   pub history : History Edit
-  pub life : Life (of_history t) begun events (map seen_at moments) history
+  pub follows : Life (of_history (new_terms jobs mark memory)) begun events (map seen_at moments) history
+  pub created : snapshot_view first ≡ view_of (of_history (new_terms jobs mark memory)) begun
   -- what is left of the lent memory: the bytes written stand before those that were not
   pub lent : after ≡ record { records = left.records; carrier = left.carrier; bytes = bytes ++ left.bytes }

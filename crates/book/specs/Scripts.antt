@@ -52,7 +52,7 @@ unreadable cut = Some CutOff
 unreadable (whole c n) = None
 
 module _ {X : Type 0} (S : Subject X) where
-  -- The subject after a call, with so many groups of the script open.
+  -- How far a script is after a call, with so many groups of its own open.
   abbrev pub called : Progress X → Call → (groups : ℕ) → Progress X
   called p c groups = record { subject = S.after p.subject c; lent = p.lent; written = p.written; groups = groups }
 
@@ -60,7 +60,7 @@ module _ {X : Type 0} (S : Subject X) where
   abbrev pub ends_innermost : X → Ending → Call
   ends_innermost x e = ends e (S.mark x) (S.depth x)
 
-  -- What was lent after an accepted detection.
+  -- How far it is after an accepted detection.
   abbrev pub detected : Progress X → (job : ℕ) → Detection → (is : List RunRecord) (after : Carried) → Progress X
   detected p job d is after = record {
     subject = p.subject;

@@ -6,6 +6,7 @@ use Rattle.book.specs.declared.calls.Edit.{Edit}
 use Rattle.book.specs.declared.calls.Edit.TheVariants.{Grant, Request}
 use Rattle.book.specs.declared.fault.BookFault.{BookFault}
 use Rattle.book.specs.declared.fault.RefusedEnding.{RefusedEnding}
+use Rattle.book.specs.declared.fault.RefusedStub.{RefusedStub}
 use Rattle.book.specs.Faults.{number}
 use Rattle.book.specs.Calls.{requests, grants, Edit as EditCall}
 use Rattle.book.specs.Answers.{Answer, done, ticket, returned, stop}
@@ -22,14 +23,14 @@ abbrev pub told_ending : Result (Unit {0}) RefusedEnding → Answer
 told_ending (Ok u) = done
 told_ending (Err e) = returned (number e.fault) e.returned.ticket.mark e.returned.ticket.depth
 
--- Without a ticket: what it would tell.
+-- The same of an opening that gives no ticket, but tells what it would tell; and of an ending that is made with such a stub.
 abbrev pub told_stub : Result Stub BookFault → Answer
 told_stub (Ok s) = ticket s.mark s.depth
 told_stub (Err fault) = stop fault
 
-abbrev pub told_ending_by : Stub → Result (Unit {0}) BookFault → Answer
-told_ending_by s (Ok u) = done
-told_ending_by s (Err fault) = returned (number fault) s.mark s.depth
+abbrev pub told_ending_by : Result (Unit {0}) RefusedStub → Answer
+told_ending_by (Ok u) = done
+told_ending_by (Err e) = returned (number e.fault) e.stub.mark e.stub.depth
 
 abbrev pub edit_of : Edit → EditCall
 edit_of (Grant granter waiter) = grants granter waiter

@@ -9,7 +9,7 @@ mod snapshot;
 mod store;
 
 pub use calls::Edit;
-pub use fault::{BookFault, RefusedEnding};
+pub use fault::{BookFault, RefusedEnding, RefusedStub};
 pub use groups::{DEPTH_MAX, Ending, Old, Stub, TRAIL_MAX, Ticket};
 pub use life::{Answer, Call, Creation, Moment, TooFewMoments, live};
 pub use rows::{PlainRow, TARGETS_MAX};

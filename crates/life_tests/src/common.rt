@@ -1,7 +1,7 @@
 // What the tests share: steps of a life, and what is lent to it.
 use book::{
     Answer, BookFault, Call, Creation, Edit, Ending, FinishedScript, Moment, Old, PlainRow,
-    ScriptFault, Snapshot, StoppedScript, Stub,
+    RefusedStub, ScriptFault, Snapshot, StoppedScript, Stub,
 };
 use carriers::{Kind, Message, Wait};
 use detection::{Detection, RunRecord, Verdict};
@@ -27,9 +27,6 @@ pub const DONE: Answer = Answer::Edited(Ok(()));
 
 pub const ENDED: Answer = Answer::Ended(Ok(()));
 
-// The answer of an ending whose stub does not fit.
-pub const NOT_ENDED: Answer = Answer::Ended(Err(BookFault::NotInnermost));
-
 pub fn request(job: usize, need: u8, targets: &'static [u8]) -> Call<'static> {
     Call::Edit(Edit::Request { job, need, targets })
 }
@@ -49,6 +46,14 @@ pub fn detect(job: usize) -> Call<'static> {
 pub fn ends(ending: Ending, mark: u16, depth: u8) -> Call<'static> {
     let stub = Stub { mark, depth };
     Call::End { ending, stub }
+}
+
+// The answer of an ending whose stub does not fit: the stub comes back.
+pub fn not_ended(mark: u16, depth: u8) -> Answer {
+    Answer::Ended(Err(RefusedStub {
+        fault: BookFault::NotInnermost,
+        stub: Stub { mark, depth },
+    }))
 }
 
 pub fn opened(depth: u8) -> Answer {

@@ -90,25 +90,23 @@ impl<'d> Step<'d> {
 // views are done; and two scripts are run.
 pub fn day() -> [Step<'static>; STEPS] {
     [
-        plain(Call::Open).said("the designer's own group is opened"),
+        plain(Call::Open).said("it is the designer's own"),
         ask(Job::Fillet, 2, FACES),
         ask(Job::Preview, 1, MESHES),
         ask(Job::Sheet, 2, VIEWS),
         plain(Call::Open)
-            .said("a group is opened for the drawer edge; waiting before it:")
+            .said("it is for the drawer edge; waiting before it:")
             .listed(),
         ask(Job::DrawerFillet, 2, DRAWER_FACES),
         ask(Job::SectionView, 1, &[Job::DrawerFillet as u8]).said(
             "the drawer edge is too thin: its fillet fails",
         ),
         end(Ending::Cancel, 1).said("the designer's own ticket does not end the inner group"),
-        end(Ending::Cancel, 2)
-            .said("the group is cancelled; waiting after it:")
-            .listed(),
-        plain(Call::Open).said("a group is opened for the handle"),
+        end(Ending::Cancel, 2).said("waiting after it:").listed(),
+        plain(Call::Open).said("it is for the handle"),
         ask(Job::Handle, 1, HANDLE_SEATS),
-        end(Ending::Keep, 2).said("the group is kept"),
-        plain(Call::Open).said("a group is opened for three views"),
+        end(Ending::Keep, 2),
+        plain(Call::Open).said("it is for three views"),
         ask(Job::SideView, 1, &[Job::TopView as u8]),
         ask(Job::TopView, 1, &[Job::SectionView as u8]),
         ask(Job::SectionView, 2, SIDE_AND_TOP)
@@ -116,7 +114,7 @@ pub fn day() -> [Step<'static>; STEPS] {
             .listed(),
         detect(Job::Sheet),
         detect(Job::Preview),
-        end(Ending::Cancel, 2).said("the group is cancelled: the sheet would never be done"),
+        end(Ending::Cancel, 2).said("the sheet would never be done in it"),
         detect(Job::Sheet),
         detect(Job::Preview),
         grant(Job::LeftFace, Job::Fillet),
@@ -124,16 +122,14 @@ pub fn day() -> [Step<'static>; STEPS] {
         grant(Job::BodyMesh, Job::Preview),
         grant(Job::SectionView, Job::Sheet),
         grant(Job::FrontView, Job::Sheet),
-        end(Ending::Keep, 1)
-            .said("the day is kept; left waiting:")
-            .listed(),
+        end(Ending::Keep, 1).said("left waiting:").listed(),
         plain(Call::Run {
             script: ASKING_SCRIPT,
         }),
         plain(Call::Run {
             script: FAULTY_SCRIPT,
         })
-        .said("the script's group is cancelled; left waiting:")
+        .said("left waiting:")
         .listed(),
     ]
 }

@@ -45,15 +45,6 @@ struct Lived {
     answers: [u8; ANSWERS],
 }
 
-// The calls of the day alone. They are written by place: the check doesn't cover a walk that changes values which hold references.
-fn calls_of(day: &[Step<'static>; STEPS]) -> [Call<'static>; STEPS] {
-    let mut calls = [Call::Open; STEPS];
-    for (place, step) in day.iter().enumerate() {
-        calls[place] = step.call;
-    }
-    calls
-}
-
 // Lives the day over a carrier.
 fn live_over<C: Carrier>(calls: &[Call<'_>], carrier: &mut C) -> Result<Lived, Trouble> {
     let mut trail = [Old {
@@ -98,9 +89,9 @@ fn tell_all(rt: &HostRuntime, day: &[Step<'static>; STEPS], lived: &Lived) -> Re
 fn main(rt: HostRuntime) -> Result<(), Trouble> {
     let mut cells = [UNUSED; CELLS];
     let day = day();
-    let calls = calls_of(&day);
-    println!(rt; "a day of regeneration: {JOBS} jobs, all active")?;
+    let calls = day.map(|step| step.call);
     let over_queue = live_over(&calls, &mut QueueCarrier::new(&mut cells))?;
+    tell::beginning(&rt, &over_queue.first)?;
     tell_all(&rt, &day, &over_queue)?;
     print!(rt; "the detector over a queue:")?;
     tell::detections(&rt, &day, &over_queue.moments)?;

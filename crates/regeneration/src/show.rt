@@ -35,11 +35,11 @@ pub fn word(stuck: bool) -> &'static str {
 // The rows as the bytes of a chart.
 fn chart_bytes(seen: &Snapshot) -> [u8; JOBS * ROW_BYTES] {
     let mut bytes = [0; JOBS * ROW_BYTES];
-    for (place, row) in bytes.chunks_exact_mut(ROW_BYTES).zip(seen.rows()) {
-        place[0] = row.need;
-        place[1] = row.count;
+    for (stored, row) in bytes.chunks_exact_mut(ROW_BYTES).zip(seen.rows()) {
+        stored[0] = row.need;
+        stored[1] = row.count;
         let targets = row.targets.iter().take(row.count as usize);
-        for (byte, target) in place[2..].iter_mut().zip(targets) {
+        for (byte, target) in stored[2..].iter_mut().zip(targets) {
             *byte = *target;
         }
     }

@@ -3,7 +3,10 @@ use crate::day::Step;
 use crate::names::name_of;
 use crate::show::{row, waiting, word};
 use crate::trouble::Trouble;
-use book::{Answer, BookFault, Call, Edit, FinishedScript, Moment, Snapshot, StoppedScript};
+use book::{
+    Answer, BookFault, Call, Edit, Ending, FinishedScript, Moment, RefusedStub, Snapshot,
+    StoppedScript, Stub,
+};
 use detection::{Detection, Verdict};
 use std::io;
 
@@ -33,10 +36,10 @@ fn edited(rt: &HostRuntime, edit: Edit<'_>, before: &Snapshot, after: &Snapshot)
     }
 }
 
-fn found(rt: &HostRuntime, job: usize, found: Detection) -> io::Result<()> {
+fn found(rt: &HostRuntime, job: usize, answer: Detection) -> io::Result<()> {
     let name = name_of(job);
-    let word = word(found.verdict == Verdict::Stuck);
-    let deliveries = found.deliveries;
+    let word = word(answer.verdict == Verdict::Stuck);
+    let deliveries = answer.deliveries;
     println!(rt; "the detector is asked about the {name}: {word}, {deliveries} deliveries")
 }
 
@@ -64,6 +67,26 @@ fn refused(rt: &HostRuntime, fault: BookFault) -> io::Result<()> {
     println!(rt; "the book refuses: {number}")
 }
 
+fn opened(rt: &HostRuntime, stub: Stub) -> io::Result<()> {
+    let depth = stub.depth;
+    println!(rt; "a group is opened at depth {depth}")
+}
+
+fn ended(rt: &HostRuntime, ending: Ending, stub: Stub) -> io::Result<()> {
+    let depth = stub.depth;
+    let how = match ending {
+        Ending::Keep => "kept",
+        Ending::Cancel => "cancelled",
+    };
+    println!(rt; "the group at depth {depth} is {how}")
+}
+
+fn not_ended(rt: &HostRuntime, refused: RefusedStub) -> io::Result<()> {
+    let number = refused.fault.number();
+    let depth = refused.stub.depth;
+    println!(rt; "the book refuses: {number}; the ticket of depth {depth} comes back")
+}
+
 // What a call answered. `bytes` begin with those that it wrote.
 fn answered(
     rt: &HostRuntime,
@@ -72,17 +95,21 @@ fn answered(
     moment: &Moment,
     bytes: &[u8],
 ) -> Result<(), Trouble> {
-    match (call, moment.answer) {
-        (Call::Edit(made), Answer::Edited(Ok(()))) => edited(rt, made, before, &moment.seen)?,
-        (Call::Detect { job }, Answer::Detected(Ok(answer))) => found(rt, job, answer)?,
+    let told = match (call, moment.answer) {
+        (Call::Edit(made), Answer::Edited(Ok(()))) => edited(rt, made, before, &moment.seen),
+        (Call::End { ending, stub }, Answer::Ended(Ok(()))) => ended(rt, ending, stub),
+        (Call::Detect { job }, Answer::Detected(Ok(answer))) => found(rt, job, answer),
+        (_, Answer::Opened(Ok(stub))) => opened(rt, stub),
+        (_, Answer::Ran(Ok(script))) => finished(rt, script, bytes),
+        (_, Answer::Ran(Err(script))) => stopped(rt, script),
+        (_, Answer::Edited(Err(fault))) => refused(rt, fault),
+        (_, Answer::Opened(Err(fault))) => refused(rt, fault),
+        (_, Answer::Ended(Err(stub))) => not_ended(rt, stub),
         (_, Answer::Detected(Err(fault))) => return Err(Trouble::NotDetected(fault)),
-        (_, Answer::Ran(Ok(script))) => finished(rt, script, bytes)?,
-        (_, Answer::Ran(Err(script))) => stopped(rt, script)?,
-        (_, Answer::Edited(Err(fault)) | Answer::Ended(Err(fault)) | Answer::Opened(Err(fault))) =>
-            { refused(rt, fault)? }
-        _ => {}
-    }
-    Ok(())
+        // an answer is of the kind of its call
+        (_, Answer::Edited(Ok(())) | Answer::Ended(Ok(())) | Answer::Detected(Ok(_))) => Ok(()),
+    };
+    Ok(told?)
 }
 
 // A call of the day, with what is to be said after it.
@@ -102,6 +129,13 @@ pub fn call(
         waiting(rt, &moment.seen)?;
     }
     Ok(())
+}
+
+// What is seen before the first call.
+pub fn beginning(rt: &HostRuntime, first: &Snapshot) -> io::Result<()> {
+    let jobs = first.rows().len();
+    let active = first.rows().iter().filter(|row| row.need == 0).count();
+    println!(rt; "a day of regeneration: {jobs} jobs, {active} of them active")
 }
 
 // The detections of the day alone, in one line: the word for each job that was asked about, and the deliveries.

@@ -36,13 +36,15 @@ fn space_for_the_answer_is_looked_at_first(rt: HostRuntime) {
 }
 
 // In a book in which 0 waits for 1: records, cells, and messages that wait; a script, and its end.
-const REFUSED: [(usize, usize, usize, &[u8], End); 10] = [
+const REFUSED: [(usize, usize, usize, &[u8], End); 12] = [
     (3, 1, 1, b"D\x04", End::Stopped(1, 2, 0, 0, 0)),
     (3, 1, 1, b"D\0", End::Stopped(10, 2, 0, 0, 0)),
     (4, 1, 1, b"D\0", End::Stopped(11, 2, 0, 0, 0)),
     (4, 1, 0, b"D\0", End::Stopped(12, 2, 0, 0, 0)),
     (4, 2, 0, b"D\0", End::Finished(1, 0, 4)),
+    (0, 2, 0, b"OKD\0", End::Stopped(10, 2, 2, 2, 0)),
     (0, 2, 0, b"OKD\0OK", End::Stopped(10, 2, 2, 2, 0)),
+    (4, 2, 2, b"OKD\0", End::Stopped(11, 2, 2, 2, 0)),
     (4, 2, 2, b"OKD\0OK", End::Stopped(11, 2, 2, 2, 0)),
     (4, 1, 0, b"OKD\0OK", End::Stopped(12, 2, 2, 2, 0)),
     (

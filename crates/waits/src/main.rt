@@ -9,24 +9,22 @@ mod tests;
 mod trouble;
 
 use crate::input::read_up_to;
-use crate::run::{run, written_by};
+use crate::run::{PROGRAM_ANSWERS, run};
 use crate::trouble::Trouble;
-use book::SCRIPT_MAX;
+use book::{Answer, SCRIPT_MAX};
 
 // One byte more than a script can have, so that one that is too long is seen to be so.
 const INPUT_MAX: usize = SCRIPT_MAX + 1;
-
-// Enough for the longest script: it has a detection for every two bytes at most, and each writes four.
-const PROGRAM_ANSWERS: usize = 16_384;
 
 fn main(rt: HostRuntime) -> Result<(), Trouble> {
     let mut input = [0; INPUT_MAX];
     let count = read_up_to(&mut rt.stdin(), &mut input).map_err(Trouble::Input)?;
     let mut answers = [0; PROGRAM_ANSWERS];
     let outcome = run(&input[..count], &mut answers);
-    // written after a fault too: what finished detections wrote stays
-    rt.write_all(&answers[..written_by(&outcome)])
-        .map_err(Trouble::Output)?;
+    // printed after a fault too: what finished detections wrote stays
+    let written = Answer::Ran(outcome).written();
+    let printed = rt.write_all(&answers[..written]).map_err(Trouble::Output);
+    // a fault is told even where nothing could be printed
     outcome.map_err(Trouble::Stopped)?;
-    Ok(())
+    printed
 }

@@ -15,6 +15,9 @@ const PROGRAM_TRAIL: usize = TRAIL_MAX;
 // Room for the messages of a detection, however many waits there are.
 const PROGRAM_QUEUE: usize = CAPACITY_PER_WAIT * JOBS_MAX * TARGETS_MAX;
 
+// Enough for the longest script: it has a detection for every two bytes at most, and each writes four.
+pub const PROGRAM_ANSWERS: usize = 16_384;
+
 // The mark of the book's tickets: any, since a script hands none out.
 const MARK: u16 = 7;
 
@@ -38,14 +41,4 @@ pub fn run(script: &[u8], answers: &mut [u8]) -> Result<FinishedScript, StoppedS
     }; PROGRAM_QUEUE];
     let mut carrier = QueueCarrier::new(&mut cells);
     book.run_script(script, &mut records, &mut carrier, answers)
-}
-
-// How many answer bytes a script has written.
-pub fn written_by(outcome: &Result<FinishedScript, StoppedScript>) -> usize
-    ensures { result ≡ script_written outcome.now }
-{
-    match outcome {
-        Ok(finished) => finished.written,
-        Err(stopped) => stopped.written,
-    }
 }

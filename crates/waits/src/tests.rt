@@ -1,5 +1,6 @@
 // The line that a fault prints, and reading in pieces.
 use crate::input::read_up_to;
+use crate::run::run;
 use crate::trouble::Trouble;
 use book::{BookFault, ScriptFault, StoppedScript};
 use detection::DetectionFault;
@@ -102,6 +103,19 @@ fn tells_refusals_of_the_book(rt: HostRuntime) -> Result<(), Fail> {
     let wanted = "refusal 4, a target is wrong; layer 1, book; offset 12; index 3; value 15";
     assert_eq!(rt; line.as_str(), wanted);
     Ok(())
+}
+
+#[test]
+fn tells_where_a_script_stops(rt: HostRuntime) {
+    let mut answers = [0; 4];
+    match run(b"G\x01\0", &mut answers) {
+        Ok(_) => assert!(rt; false),
+        Err(stopped) => {
+            assert_eq!(rt; stopped.fault, ScriptFault::OfBook(BookFault::NoSuchWait));
+            assert_eq!(rt; (stopped.fault.number(), stopped.fault.layer()), (7, 1));
+            assert_eq!(rt; (stopped.offset, stopped.index, stopped.written), (0, 0, 0));
+        }
+    }
 }
 
 // A reader that fails.

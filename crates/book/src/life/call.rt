@@ -1,7 +1,7 @@
 // The calls of a life, and what they answer.
 
 use crate::calls::Edit;
-use crate::fault::BookFault;
+use crate::fault::{BookFault, RefusedStub};
 use crate::script::{FinishedScript, StoppedScript};
 use detection::{Detection, DetectionFault};
 use groups::{Ending, Stub};
@@ -16,11 +16,11 @@ pub enum Call<'c> {
     Run { script: &'c [u8] },
 }
 
-// The answer of a call. The ticket of a refused ending is the one that it was made with.
+// The answer of a call. A refused ending tells what the ticket tells that comes back.
 #[derive(Clone, Copy, Drop, PartialEq, Eq, Debug)]
 pub enum Answer {
     Opened(Result<Stub, BookFault>),
-    Ended(Result<(), BookFault>),
+    Ended(Result<(), RefusedStub>),
     Detected(Result<Detection, DetectionFault>),
     Edited(Result<(), BookFault>),
     Ran(Result<FinishedScript, StoppedScript>),

@@ -1,12 +1,9 @@
 // Living a whole life.
-ghost use Rattle.std.specs.Prelude.{◌≡◌, ◌≤◌, length, take, drop, is_err, nat_lt, MatchResult};
-ghost use Rattle.groups.specs.History.{begun};
-ghost use Rattle.book.specs.Law.{LawOfLives, new_terms};
+ghost use Rattle.std.specs.Prelude.{◌≡◌, ◌≤◌, length, take, drop, is_err, nat_lt, IfOk, IfErr};
+ghost use Rattle.book.specs.Law.{LawOfLives};
 ghost use Rattle.book.specs.Moments.{Lived, written_by};
 ghost use Rattle.book.specs.Performing.{Performed};
 ghost use Rattle.book.specs.ScriptRuns.{lent};
-ghost use Rattle.book.specs.Snapshots.{snapshot_view};
-ghost use Rattle.book.specs.Subjects.{of_history, view_of};
 
 use crate::life::call::{Answer, Call};
 use crate::life::moment::Moment;
@@ -25,7 +22,7 @@ pub struct Creation<'t> {
     pub trail: &'t mut [Old<PlainRow>],
 }
 
-// The refusal of a life: there is a moment too few for its calls.
+// The refusal of a life: there are fewer moments than calls.
 #[derive(Clone, Copy, Drop, PartialEq, Eq, Debug)]
 pub struct TooFewMoments;
 
@@ -67,9 +64,9 @@ pub fn live<C: Carrier>(
 ) -> Result<Snapshot, TooFewMoments>
     ensures law { LawOfLives }
     ensures refused { is_err result ≡ nat_lt (length moments.old) (length calls.now) }
-    ensures created { MatchResult result (λ first. snapshot_view first ≡ view_of (of_history (new_terms creation.entry.jobs creation.entry.mark (length creation.entry.trail.now))) begun) (λ _. moments.new ≡ moments.old) }
-    ensures lived { MatchResult result (λ _. Lived (new_terms creation.entry.jobs creation.entry.mark (length creation.entry.trail.now)) calls.now (take (length calls.now) moments.new) (lent records.old (C.Carrier.carried carrier.old) answers.old) (lent records.new (C.Carrier.carried carrier.new) answers.new)) (λ _. (records.new ≡ records.old) × (carrier.new ≡ carrier.old) × (answers.new ≡ answers.old)) }
+    ensures lived { IfOk result (λ first. Lived creation.entry.jobs creation.entry.mark (length creation.entry.trail.now) calls.now first (take (length calls.now) moments.new) (lent records.old (C.Carrier.carried carrier.old) answers.old) (lent records.new (C.Carrier.carried carrier.new) answers.new)) }
     ensures rest { drop (length calls.now) moments.new ≡ drop (length calls.now) moments.old }
+    ensures unchanged { IfErr result (λ _. (creation.exit.1.1.0.now ≡ creation.entry.trail.now) × (moments.new ≡ moments.old) × (records.new ≡ records.old) × (carrier.new ≡ carrier.old) × (answers.new ≡ answers.old)) }
 {
     if moments.len() < calls.len() {
         return Err(TooFewMoments);

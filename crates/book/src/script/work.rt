@@ -71,6 +71,7 @@ impl<'a> Book<'a> {
         }
         Ok(())
     }
+
     // Reads the next command and carries it out; after a fault the reader stands at the command's first byte.
     fn step<C: Carrier>(
         &mut self,
@@ -99,7 +100,7 @@ impl<'a> Book<'a> {
     }
 
     // Carries out the commands of a script, to its end or to the first fault.
-    pub fn work<C: Carrier>(
+    pub(crate) fn work<C: Carrier>(
         &mut self,
         script: &[u8],
         position: &mut Position,

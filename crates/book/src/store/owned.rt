@@ -6,7 +6,7 @@ ghost use Rattle.book.specs.History.{Called};
 ghost use Rattle.book.specs.Views.{told, told_stub, told_ending_by, edit_of};
 
 use crate::calls::Edit;
-use crate::fault::BookFault;
+use crate::fault::{BookFault, RefusedStub};
 use crate::store::Book;
 use groups::{Ending, Stub};
 
@@ -29,13 +29,15 @@ impl<'a> Book<'a> {
     }
 
     // Ends the innermost group, as a ticket that tells this would.
-    pub(crate) fn end_by_owner(&mut self, ending: Ending, stub: Stub) -> Result<(), BookFault>
-        ensures { Called self.old (ends ending stub.mark stub.depth) (told_ending_by stub result) self.new }
+    pub(crate) fn end_by_owner(&mut self, ending: Ending, stub: Stub) -> Result<(), RefusedStub>
+        ensures { Called self.old (ends ending stub.mark stub.depth) (told_ending_by result) self.new }
     {
-        if self.groups.end_by_owner(ending, stub) {
-            Ok(())
-        } else {
-            Err(BookFault::NotInnermost)
+        match self.groups.end_by_owner(ending, stub) {
+            Ok(()) => Ok(()),
+            Err(stub) => Err(RefusedStub {
+                fault: BookFault::NotInnermost,
+                stub,
+            }),
         }
     }
 

@@ -1,5 +1,5 @@
 // Opening and ending without a ticket, for whatever owns the groups. It decides who else may: a book asks its clients for tickets.
-ghost use Rattle.std.specs.Prelude.{◌≡◌, ◌+◌, length, if◌then◌else◌, Some, None, nat_lt};
+ghost use Rattle.std.specs.Prelude.{◌≡◌, ◌+◌, length, if◌then◌else◌, Some, None, Ok, Err, nat_lt};
 ghost use Rattle.groups.specs.Limits.{depth_max};
 ghost use Rattle.groups.specs.State.{face, innermost, opened};
 ghost use Rattle.groups.specs.Tickets.{ended_as};
@@ -26,9 +26,10 @@ impl<'a, P: Copy> Groups<'a, P> {
         Some(Stub { mark, depth })
     }
 
-    // Ends the innermost group, if the stub is that group's; says whether it is. Else nothing changes.
-    pub fn end_by_owner(&mut self, ending: Ending, stub: Stub) -> bool
-        ensures value { result ≡ innermost self.old.mark (face self.old) stub.mark stub.depth }
+    // Ends the innermost group with a ticket that tells what the stub tells. Where that is not the group's ticket, nothing changes,
+    // and what the refused ticket tells comes back.
+    pub fn end_by_owner(&mut self, ending: Ending, stub: Stub) -> Result<(), Stub>
+        ensures value { result ≡ (if innermost self.old.mark (face self.old) stub.mark stub.depth then Ok tt else Err stub) }
         ensures after { self.new ≡ (if innermost self.old.mark (face self.old) stub.mark stub.depth then ended_as ending self.old else self.old) }
     {
         let ticket = stub.ticket();
@@ -37,10 +38,10 @@ impl<'a, P: Copy> Groups<'a, P> {
             Ending::Cancel => self.cancel(ticket),
         };
         match ended {
-            Ok(()) => true,
+            Ok(()) => Ok(()),
             Err(refused) => {
-                refused.give_up();
-                false
+                let Ticket { mark, depth } = refused.ticket();
+                Err(Stub { mark, depth })
             }
         }
     }

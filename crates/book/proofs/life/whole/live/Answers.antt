@@ -1,6 +1,7 @@
-use Rattle.std.proofs.Common.{◌≡◌, ◌<◌, length, refl, ◌∙◌, arith}
+use Rattle.std.proofs.Common.{◌≡◌, ◌<◌, length, refl, ◌∙◌, ap, arith}
 use Rattle.std.proofs.lemmas.List.{take_more, take_more_set, take_all, take_rest, length-set, drop-set-lt}
 use Rattle.book.specs.declared.life.call.Call.TheVariants.{Open}
+use Rattle.book.specs.Subjects.{of_book, view_of}
 use Rattle.book.proofs.Alive.{alive_first, alive_next, alive_lived, behind_all}
 use Rattle.book.proofs.Lives.{law_of_lives}
 use Rattle.book.proofs.life.whole.live.Goals as goal
@@ -30,4 +31,4 @@ returns-clause-law g c = law_of_lives
 pub returns-clause-lived : goal.returns-clause-lived
 returns-clause-lived g c =
     let end : c.loop-place.place ≡ length c.args.calls.now = omega (arith, c.loop-place-test.false, c.loop-place.auto.place-end) in
-    rw (← end) (alive_lived _ _ _ _ (rw (take_all c.loop-place.place c.args.calls.now (omega (arith, end))) at c.loop-place.invariant.0))
+    rw (← end) (alive_lived _ _ _ _ c.snapshot-first.result (c.snapshot-first.ensures ∙ ap (view_of of_book) c.new-book.ensures.value) (rw (take_all c.loop-place.place c.args.calls.now (omega (arith, end))) at c.loop-place.invariant.0))
