@@ -1,0 +1,191 @@
+#!/usr/bin/env python3
+"""Runs `waits` and a plain Rust program on the same scripts, side by side: README.md."""
+
+import argparse
+import collections
+import os
+import random
+import statistics
+import subprocess
+import sys
+import tempfile
+import time
+from pathlib import Path
+
+import scripts
+
+BENCH = Path(__file__).resolve().parent
+WAITS = BENCH.parent / "crates/waits/out/waits"
+PLAIN = BENCH / "plain/target/release"
+PROGRAMS = {"waits": WAITS, "plain": PLAIN / "plain", "indexed": PLAIN / "indexed"}
+
+
+class Disagreement(Exception):
+    pass
+
+
+class Bench:
+    """The programs, and a folder for what they read and write."""
+
+    def __init__(self, folder):
+        self.folder = Path(folder)
+
+    def run(self, name, script):
+        """Runs a program; tells the seconds from its start to its end, and what is seen of it."""
+        paths = [self.folder / part for part in ("in", "out", "err")]
+        write = os.O_WRONLY | os.O_CREAT | os.O_TRUNC
+        actions = [
+            (os.POSIX_SPAWN_OPEN, 0, paths[0], os.O_RDONLY, 0),
+            (os.POSIX_SPAWN_OPEN, 1, paths[1], write, 0o600),
+            (os.POSIX_SPAWN_OPEN, 2, paths[2], write, 0o600),
+        ]
+        program = PROGRAMS[name]
+        start = time.perf_counter()
+        pid = os.posix_spawn(program, [str(program)], {}, file_actions=actions)
+        _, status = os.waitpid(pid, 0)
+        seconds = time.perf_counter() - start
+        return seconds, (paths[1].read_bytes(), os.waitstatus_to_exitcode(status), paths[2].read_bytes())
+
+    def agree(self, script, names):
+        """Runs the programs once each on a script; they must write and end alike."""
+        (self.folder / "in").write_bytes(script)
+        seconds = {}
+        seen = {}
+        for name in names:
+            seconds[name], seen[name] = self.run(name, script)
+        if any(seen[name] != seen[names[0]] for name in names):
+            raise Disagreement(f"script {script.hex()}\n" + "\n".join(f"{n}: {s}" for n, s in seen.items()))
+        return seconds, seen[names[0]]
+
+    def times(self, script, repetitions):
+        """The seconds of each run of each program, in turn."""
+        times = {name: [] for name in PROGRAMS}
+        names = list(PROGRAMS)
+        for repetition in range(repetitions):
+            # another one is first each time
+            turn = repetition % len(names)
+            seconds, seen = self.agree(script, names[turn:] + names[:turn])
+            for name, took in seconds.items():
+                times[name].append(took)
+        return times, seen
+
+
+def milliseconds(seconds):
+    return f"{1000 * seconds:.2f}"
+
+
+def table(head, rows):
+    print("| " + " | ".join(head) + " |")
+    print("|" + "---|" * len(head))
+    for row in rows:
+        print("| " + " | ".join(row) + " |")
+    print(flush=True)
+
+
+def deliveries_of(answers):
+    return sum(answers[at] * 256 + answers[at + 1] for at in range(2, len(answers), 4))
+
+
+def compare(bench, seed, repetitions):
+    """Whole scripts: total time of the process, and that time less what a run of the empty script takes."""
+    rng = random.Random(seed)
+    cases = [
+        ("empty", b""),
+        ("dense, all stuck", scripts.dense_stuck()),
+        ("dense, all free", scripts.dense_free()),
+        ("sparse", scripts.sparse(rng)),
+        ("undo-heavy", scripts.undo_heavy(rng)),
+        ("undo-heavy, long rows", scripts.undo_heavy(rng, 16)),
+        ("undo in waves", scripts.undo_waves()),
+        ("empty groups", scripts.empty_groups()),
+    ]
+    rows = []
+    base = None
+    for label, script in cases:
+        # short runs are measured more often
+        first, _ = bench.agree(script, list(PROGRAMS))
+        often = repetitions if max(first.values()) > 0.05 else 20 * repetitions
+        times, seen = bench.times(script, often)
+        best = {name: min(all_times) for name, all_times in times.items()}
+        middle = {name: statistics.median(all_times) for name, all_times in times.items()}
+        base = base or best
+        own = {name: best[name] - base[name] for name in best}
+        row = [label, str(len(script)), str(deliveries_of(seen[0]))]
+        row += [f"{milliseconds(best[n])} / {milliseconds(middle[n])}" for n in PROGRAMS]
+        for other in ("plain", "indexed"):
+            row.append(f"{best['waits'] / best[other]:.2f}")
+        for other in ("plain", "indexed"):
+            row.append("" if base is best else f"{own['waits'] / max(own[other], 1e-9):.2f}")
+        rows.append(row)
+        print(f"{label}: done", file=sys.stderr)
+    head = ["script", "bytes", "deliveries", *(f"{n}, ms best / median" for n in PROGRAMS)]
+    head += ["waits/plain", "waits/indexed", "waits/plain less start", "waits/indexed less start"]
+    table(head, rows)
+
+
+def deliveries_a_second(bench, repetitions):
+    """Millions of deliveries a second, by the best time less the best of the empty script."""
+    times, _ = bench.times(b"", 20 * repetitions)
+    base = {name: min(all_times) for name, all_times in times.items()}
+    for label in ("stuck", "free"):
+        rows = []
+        for power in range(6, 13):
+            waits = 2**power
+            if label == "stuck":
+                script = scripts.ring_stuck(waits, 4_000_000)
+            else:
+                waits, script = scripts.ring_free(waits, 4_000_000)
+            times, seen = bench.times(script, repetitions)
+            done = deliveries_of(seen[0])
+            rate = {n: done / (min(all_times) - base[n]) / 1e6 for n, all_times in times.items()}
+            rows.append(
+                [str(waits), str(done), *(f"{rate[n]:.1f}" for n in PROGRAMS)]
+                + [f"{rate[other] / rate['waits']:.2f}" for other in ("plain", "indexed")]
+            )
+        print(f"All {label}:\n")
+        table(["e", "deliveries", *(f"{n}, millions/s" for n in PROGRAMS), "waits/plain", "waits/indexed"], rows)
+
+
+def fuzz(bench, seed, count):
+    """Random scripts, on which the programs must write and end alike."""
+    rng = random.Random(seed)
+    ends = collections.Counter()
+    detections = 0
+    for number in range(count):
+        script = scripts.full_trail(rng) if number % 100 == 99 else scripts.random_script(rng)
+        _, (out, status, err) = bench.agree(script, list(PROGRAMS))
+        ends[err.decode().split(",")[0].removeprefix("Error: ") or f"status {status}"] += 1
+        detections += len(out) // 4
+    print(f"{count} random scripts with {detections} answers, seed {seed}: no disagreement. Their ends:\n")
+    table(["end", "scripts"], [[end, str(n)] for end, n in sorted(ends.items(), key=lambda it: -it[1])])
+
+
+def main():
+    parser = argparse.ArgumentParser(description=__doc__)
+    parser.add_argument("--repetitions", type=int, default=15)
+    parser.add_argument("--fuzz", type=int, default=4000, help="how many random scripts")
+    parser.add_argument("--seed", type=int, default=1)
+    parser.add_argument("--only", choices=["compare", "deliveries", "fuzz"])
+    parser.add_argument("--waits", type=Path, help="another build of waits")
+    options = parser.parse_args()
+    if options.waits:
+        PROGRAMS["waits"] = options.waits.resolve()
+    if not PROGRAMS["waits"].exists():
+        sys.exit("build waits first: (cd crates/waits && rt run </dev/null)")
+    subprocess.run(["cargo", "build", "-q", "--release", "--offline"], cwd=BENCH / "plain", check=True)
+    shared = Path("/dev/shm")
+    with tempfile.TemporaryDirectory(dir=shared if shared.is_dir() else None) as folder:
+        bench = Bench(folder)
+        try:
+            if options.only in (None, "fuzz"):
+                fuzz(bench, options.seed, options.fuzz)
+            if options.only in (None, "compare"):
+                compare(bench, options.seed, options.repetitions)
+            if options.only in (None, "deliveries"):
+                deliveries_a_second(bench, options.repetitions)
+        except Disagreement as disagreement:
+            sys.exit(f"the programs disagree: {disagreement}")
+
+
+if __name__ == "__main__":
+    main()
