@@ -162,7 +162,7 @@ def fuzz(bench, seed, count):
 
 def main():
     parser = argparse.ArgumentParser(description=__doc__)
-    parser.add_argument("--repetitions", type=int, default=15)
+    parser.add_argument("--repetitions", type=int, default=8)
     parser.add_argument("--fuzz", type=int, default=4000, help="how many random scripts")
     parser.add_argument("--seed", type=int, default=1)
     parser.add_argument("--only", choices=["compare", "deliveries", "fuzz"])

@@ -196,7 +196,6 @@ def random_script(rng):
     script = b""
     length = min(SCRIPT_MAX, int(2 ** rng.uniform(3, 13.2)))
     most_targets = rng.choice([1, 2, 4, 16])
-    # most jobs low, so that detections meet cycles and grants
     detections = rng.choice([0.02, 0.1])
     while len(script) < length:
         command = accepted_command(rng, model, most_targets, detections)
