@@ -1,15 +1,17 @@
 -- The rows that the book shows, read off the rows that it stores.
-use Rattle.std.proofs.Common.{◌≡◌, ℕ, zero, suc, ◌+◌, ◌<◌, ◌≤◌, true, ◌&&◌, List, [], ◌∷◌, map, length, get_or, take, sym, refl, ap, ◌∙◌, Result, Ok, Err, IsOk, subst, arith}
+use Rattle.std.proofs.Common.{◌≡◌, ℕ, zero, suc, ◌+◌, ◌<◌, ◌≤◌, true, false, ◌&&◌, List, [], ◌∷◌, map, length, get_or, take, sym, refl, ap, ◌∙◌, Some, None, Option, IfSome, Bor, Result, Ok, Err, IsOk, subst, ⊎_elim, arith}
+use Rattle.std.specs.Slice.{IsGetResult}
 use Rattle.std.proofs.lemmas.List.{length-map, length-take-le, get_or-map, get_or-take}
-use Rattle.std.proofs.lemmas.Bool.{and_from, and_parts}
+use Rattle.std.proofs.lemmas.Bool.{cases_Bool, and_from, and_parts}
 use Rattle.rows.specs.declared.plain.PlainRow.{PlainRow}
-use Rattle.rows.specs.Waiting.{Waiting, idle, at}
+use Rattle.rows.specs.Waiting.{Waiting, idle, at, among}
 use Rattle.rows.specs.Law.{row_fits, sound}
 use Rattle.rows.specs.declared.plain.Row.{Row}
 use Rattle.rows.specs.declared.plain.LawBroken.{LawBroken}
 use Rattle.rows.specs.Views.{waiting, plain_fits, Checked}
 use Rattle.rows.proofs.Laws.{fits_sound}
 use Rattle.tables.specs.Tables.{rows_fit, lawful}
+use Rattle.tables.proofs.Laws.{target_below}
 use Rattle.groups.specs.State.{State}
 use Rattle.groups.specs.Views.{view}
 use Rattle.book.specs.Memory.{Lawful}
@@ -23,11 +25,14 @@ pub at_seen : (n : ℕ) (rows : List PlainRow) (job : ℕ) (d : PlainRow) → n 
 at_seen n rows job d l j =
     get_or-map waiting (take n rows) job d idle (omega (arith, length-take-le n rows l)) ∙ ap waiting (get_or-take n rows job d j)
 
--- a stored row that obeys the law passes the check
-pub sound_at : (n : ℕ) (rows : List PlainRow) (job : ℕ) (row : PlainRow) → ((d : PlainRow) → row ≡ get_or rows job d) → job < length rows → rows_obey (plain_fits n) 0 rows ≡ true → sound row.need row.count row.targets ≡ true
-sound_at n rows job row e j o =
+-- a stored row that is read obeys the law
+pub stored_sound : (n : ℕ) (rows : List PlainRow) (job : ℕ) (item : Option (Bor PlainRow)) → n ≤ length rows → rows_obey (plain_fits n) 0 rows ≡ true → IsGetResult (take n rows) job job item → IfSome item (λ p. sound p.now.need p.now.count p.now.targets ≡ true)
+stored_sound n rows job None w o l = tt
+stored_sound n rows job (Some p) w o l =
+    let within : job < n = omega (arith, l.3.0, length-take-le n rows w) in
     let k : job + 0 ≡ job = omega arith in
-    fits_sound n job row (ap (plain_fits n job) (e row) ∙ subst (λ i. plain_fits n i (get_or rows job row) ≡ true) k (obeyed_at (plain_fits n) 0 rows job row j o))
+    let read : p.now ≡ get_or rows job p.now = l.1 ∙ get_or-take n rows job p.now within in
+    fits_sound n job p.now (ap (plain_fits n job) read ∙ subst (λ i. plain_fits n i (get_or rows job p.now) ≡ true) k (obeyed_at (plain_fits n) 0 rows job p.now (omega arith) o))
 
 -- a sound row passes the check as it is
 pub sound_is_checked : (p : PlainRow) (r : Result Row LawBroken) → Checked p r → sound p.need p.count p.targets ≡ true → IsOk r
@@ -64,6 +69,14 @@ module _ (n : ℕ) (s : State PlainRow) (l : Lawful n s) where
       ap (λ k. rows_fit k 0 (view n waiting s).rows) jobs_seen
       ∙ sym (fit_obeyed n 0 (view n waiting s).rows)
       ∙ seen_obeys n n 0 s.rows l.lawful
+
+  -- no job waits for one beyond the last
+  pub none_waits_beyond : (waiter job : ℕ) → n ≤ job → among job (at (view n waiting s).rows waiter).targets ≡ false
+  none_waits_beyond waiter job l =
+      ⊎_elim
+      (λ (a : among job (at (view n waiting s).rows waiter).targets ≡ true). absurd (omega (arith, jobs_seen, target_below (view n waiting s).rows lawful_seen waiter job a)))
+      (λ a. a)
+      (cases_Bool (among job (at (view n waiting s).rows waiter).targets))
 
 -- a row of a lawful table
 pub fits_at : (rows : List Waiting) (job : ℕ) → lawful rows ≡ true → job < length rows → row_fits (length rows) job (at rows job) ≡ true

@@ -1,17 +1,23 @@
 -- What the rows of the program stand for.
 use Rattle.std.specs.Prelude.{◌≡◌, ℕ, Bool, true, false, cond, ◌&&◌, List, length, Some, None, Ok, Err, Option, Result, MatchResult, nat_le}
+use Rattle.std.specs.Borrow.{Bor}
 use Rattle.rows.specs.declared.plain.PlainRow.{PlainRow}
 use Rattle.rows.specs.declared.plain.Row.{Row}
 use Rattle.rows.specs.declared.plain.LawBroken.{LawBroken}
 use Rattle.rows.specs.declared.plain.RowFault.{RowFault}
 use Rattle.rows.specs.declared.plain.RowFault.TheVariants.{WrongCounts, WrongTarget}
-use Rattle.rows.specs.Waiting.{Waiting, among}
+use Rattle.rows.specs.Waiting.{Waiting, idle, among}
 use Rattle.rows.specs.Law.{targets_max, row_fits, stored, sound}
 use Rattle.rows.specs.Changes.{wrong_counts, first_wrong, granted}
 
 -- What a stored row says.
 abbrev pub waiting : PlainRow → Waiting
 waiting p = stored p.need p.count p.targets
+
+-- What a stored row says, where there is one; else the row is idle.
+abbrev pub waiting_or_idle : Option (Bor PlainRow) → Waiting
+waiting_or_idle None = idle
+waiting_or_idle (Some p) = waiting p.now
 
 -- What a checked row says.
 abbrev pub waiting_of : Row → Waiting

@@ -1,7 +1,6 @@
 // Looking through targets, and placing them in a row.
 ghost use Rattle.std.specs.Prelude.{◌≡◌, ◌-◌, ◌<◌, ◌≤◌, length, take};
 ghost use Rattle.std.specs.List.{remove};
-ghost use Rattle.rows.specs.Waiting.{target_at};
 ghost use Rattle.rows.specs.Law.{targets_max, counts_fit, rising, row_fits};
 ghost use Rattle.rows.specs.Changes.{first_wrong};
 ghost use Rattle.rows.specs.Places.{Placed};
@@ -20,13 +19,6 @@ pub fn rises(targets: &[u8]) -> bool
     ensures { result ≡ rising 0 targets.now }
 {
     targets.is_sorted_by(|before, after| before < after)
-}
-
-// The target at a place; past the last, none.
-pub fn target_at(targets: &[u8], place: usize) -> Option<u8>
-    ensures { result ≡ target_at targets.now place }
-{
-    targets.get(place).copied()
 }
 
 // The place of a job among the targets.

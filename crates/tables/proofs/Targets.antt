@@ -1,9 +1,9 @@
 -- Looking through targets, place by place.
-use Rattle.std.proofs.Common.{◌≡◌, ℕ, zero, suc, ◌+◌, ◌-◌, ◌<◌, ◌≤◌, true, ◌||◌, eqb, List, [], ◌∷◌, length, get_or, take, drop, slice_range, Some, None, Option, MatchOption, sym, refl, ap, ◌∙◌, add-one, arith}
+use Rattle.std.proofs.Common.{◌≡◌, ℕ, zero, suc, ◌+◌, ◌-◌, ◌<◌, ◌≤◌, true, eqb, List, [], ◌∷◌, length, get_or, take, drop, slice_range, Some, None, Option, MatchOption, sym, refl, ap, ◌∙◌, add-one, arith}
 use Rattle.std.proofs.lemmas.List.{at_drop_all, drop_all, drop_more, take_all}
 use Rattle.std.proofs.lemmas.Option.{slice_get_past, slice_get-get_or}
 use Rattle.std.proofs.lemmas.Bool.{or_right, eq-eqb}
-use Rattle.std.specs.List.{filter_map, list_any, range_with_len}
+use Rattle.std.specs.List.{filter_map, range_with_len}
 use Rattle.std.specs.declared.ops.Range.{Range}
 use Rattle.rows.proofs.Reading.{target_at_is_get}
 use Rattle.rows.specs.Waiting.{among, target_at}
@@ -36,10 +36,6 @@ targets_by_place ts (suc n) place l =
     let within : place < length ts = omega arith in
     let here : target_at ts place ≡ Some (get_or ts place 0) = target_at_is_get ts place ∙ slice_get-get_or ts place 0 within in
     rw here (ap (λ rest. get_or ts place 0 ∷ rest) (targets_by_place ts n (place + 1) (omega arith))) ∙ sym (drop_more ts place 0 within)
-
-pub some_is_the_job : (u : ℕ) (ts : List ℕ) → list_any (λ t. eqb t u) ts ≡ among u ts
-some_is_the_job u [] = refl
-some_is_the_job u (t ∷ ts) = ap (λ b. eqb t u || b) (some_is_the_job u ts)
 
 -- What is left from one place up to another, at a target and past the last.
 pub targets_left_at_a_target : (ts : List ℕ) (from to t : ℕ) → from < to → target_at ts from ≡ Some t → slice_range ts from to ≡ t ∷ slice_range ts (from + 1) to

@@ -1,8 +1,8 @@
 // What a book tells, as a table that is read both ways. Beyond the last job every row is idle.
-ghost use Rattle.std.specs.Prelude.{◌≡◌, ◌≤◌, true, length};
+ghost use Rattle.std.specs.Prelude.{◌≡◌, ◌≤◌, true, length, IfSome};
 ghost use Rattle.rows.specs.Waiting.{at};
 ghost use Rattle.rows.specs.Law.{sound};
-ghost use Rattle.rows.specs.Views.{waiting, waiting_of};
+ghost use Rattle.rows.specs.Views.{waiting_of, waiting_or_idle};
 ghost use Rattle.groups.specs.Limits.{depth_max};
 ghost use Rattle.book.specs.Snapshots.{snapshot_view};
 ghost use Rattle.book.specs.Subjects.{of_book, view_of};
@@ -12,32 +12,33 @@ use crate::store::Book;
 use rows::{PlainRow, Row};
 use tables::{Table, TwoWayTable};
 
-// The targets of a stored row.
-fn targets_in(row: &PlainRow) -> &[u8]
-    ensures { result.now ≡ (waiting row.now).targets }
-{
-    row.targets
-        .get(..row.count as usize)
-        .unwrap_or(&row.targets)
-}
-
 impl<'a> Book<'a> {
     // The row of a job, as it is stored. Questions read it so, since a check for each would be most of a detection's work.
-    fn stored(&self, job: usize) -> PlainRow
-        ensures value { waiting result ≡ at self.now.rows job }
-        ensures lawful { sound result.need result.count result.targets ≡ true }
+    fn stored(&self, job: usize) -> Option<&PlainRow>
+        ensures value { waiting_or_idle result ≡ at self.now.rows job }
+        ensures lawful { IfSome result (λ p. sound p.now.need p.now.count p.now.targets ≡ true) }
     {
-        if job >= self.jobs {
-            return PlainRow::idle();
-        }
-        self.groups.row(job as u8)
+        self.groups.rows()[..self.jobs].get(job)
     }
 
     // The row of a job, checked; as every stored row obeys the law, the check can't fail.
     pub(crate) fn row(&self, job: usize) -> Row
         ensures { waiting_of result ≡ at self.now.rows job }
     {
-        Row::try_from(self.stored(job)).unwrap()
+        match self.stored(job) {
+            Some(plain) => Row::try_from(*plain).unwrap(),
+            None => Row::idle(),
+        }
+    }
+
+    // The targets of a job.
+    fn targets_of(&self, job: usize) -> &[u8]
+        ensures { result.now ≡ (at self.now.rows job).targets }
+    {
+        match self.stored(job) {
+            Some(plain) => plain.in_use(),
+            None => &[],
+        }
     }
 
     // What is seen of the book.
@@ -68,21 +69,22 @@ impl<'a> Table for Book<'a> {
     }
 
     fn need(&self, job: usize) -> u8 {
-        self.stored(job).need
+        self.stored(job).map_or(0, |plain| plain.need)
     }
 
     fn target_count(&self, job: usize) -> usize {
-        targets_in(&self.stored(job)).len()
+        self.targets_of(job).len()
     }
 
     fn target(&self, job: usize, place: usize) -> Option<u8> {
-        targets_in(&self.stored(job)).get(place).copied()
+        self.targets_of(job).get(place).copied()
     }
 
     fn waits_for(&self, waiter: usize, job: usize) -> bool {
-        targets_in(&self.stored(waiter))
-            .iter()
-            .any(|target| *target as usize == job)
+        // no target is beyond the last job
+        job < self.jobs
+            && self.stored(waiter)
+                .is_some_and(|plain| plain.waits_for(job as u8))
     }
 }
 

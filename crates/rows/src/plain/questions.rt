@@ -1,17 +1,35 @@
 // What a row tells.
-ghost use Rattle.std.specs.Prelude.{◌≡◌, length};
-ghost use Rattle.rows.specs.Waiting.{among, target_at};
-ghost use Rattle.rows.specs.Views.{waiting_of};
+ghost use Rattle.std.specs.Prelude.{◌≡◌};
+ghost use Rattle.rows.specs.Waiting.{among};
+ghost use Rattle.rows.specs.Views.{waiting, waiting_of};
 
-use crate::parts::{place_of, target_at};
-use crate::plain::Row;
+use crate::plain::{PlainRow, Row};
+
+impl PlainRow {
+    // The targets in use. A count above 16, which no book stores, puts all of them in use.
+    pub fn in_use(&self) -> &[u8]
+        ensures { result.now ≡ (waiting self.now).targets }
+    {
+        self.targets
+            .get(..self.count as usize)
+            .unwrap_or(&self.targets)
+    }
+
+    // Whether the row waits for a job.
+    pub fn waits_for(&self, job: u8) -> bool
+        ensures { result ≡ among job (waiting self.now).targets }
+    {
+        // most rows do not: all sixteen places are compared at once, and those in use are looked at only where one is the job
+        self.targets.contains(&job) && self.in_use().contains(&job)
+    }
+}
 
 impl Row {
     // The targets in use.
     pub(crate) fn targets(&self) -> &[u8]
         ensures { result.now ≡ (waiting_of self.now).targets }
     {
-        &self.plain.targets[..self.plain.count as usize]
+        self.plain.in_use()
     }
 
     // How many of its targets the job still needs; an active job needs none.
@@ -19,26 +37,5 @@ impl Row {
         ensures { result ≡ (waiting_of self.now).need }
     {
         self.plain.need
-    }
-
-    // How many targets there are.
-    pub fn count(&self) -> usize
-        ensures { result ≡ length (waiting_of self.now).targets }
-    {
-        self.targets().len()
-    }
-
-    // The target at a place; past the last, none.
-    pub fn target(&self, place: usize) -> Option<u8>
-        ensures { result ≡ target_at (waiting_of self.now).targets place }
-    {
-        target_at(self.targets(), place)
-    }
-
-    // Whether the row waits for a job.
-    pub fn waits_for(&self, job: usize) -> bool
-        ensures { result ≡ among job (waiting_of self.now).targets }
-    {
-        place_of(self.targets(), job).is_some()
     }
 }

@@ -1,13 +1,12 @@
-use Rattle.std.proofs.Common.{sym, ap, ◌∙◌, arith}
-use Rattle.rows.specs.Views.{waiting}
-use Rattle.book.proofs.Seen.{wide, at_seen, sound_at}
+-- A row that is read is one of those that obey the law.
+use Rattle.std.proofs.Common.{length, ap, ◌∙◌, arith}
+use Rattle.rows.specs.Views.{plain_fits}
+use Rattle.groups.specs.Obeys.{rows_obey}
+use Rattle.book.proofs.Seen.{stored_sound}
 use Rattle.book.proofs.store.Book.stored.Goals as goal
 
-pub returns : goal.returns
-returns c =
-    let b = c.self.inside in
+pub returns-clause-lawful : goal.returns-clause-lawful
+returns-clause-lawful c =
     let l = c.self.invariant in
-    record {
-      value = rw (← c.self.view_is) (ap waiting (c.row.ensures c.row.result) ∙ sym (at_seen b.jobs b.groups.rows c.args.job c.row.result (wide b.jobs b.groups l) c.if-job-self.false));
-      lawful = sound_at b.jobs b.groups.rows c.args.job c.row.result c.row.ensures (omega (arith, l.few, l.whole, c.if-job-self.false)) l.lawful;
-    }
+    let n = c.self.inside.jobs in
+    stored_sound n c.rows.result.now c.args.job c.get.result (omega (arith, l.few, l.whole, ap length c.rows.ensures)) (ap (rows_obey (plain_fits n) 0) c.rows.ensures ∙ l.lawful) c.get.ensures.lookup

@@ -1,17 +1,10 @@
--- The job is some of the targets just where it is among them.
-use Rattle.std.proofs.Common.{ℕ, Bool, eqb, rules, ap, ◌∙◌}
-use Rattle.std.proofs.lemmas.Iterator.{YieldsList-from_slice}
-use Rattle.std.proofs.lemmas.Iterator.Search.{any_from_yields_List}
-use Rattle.rows.specs.Waiting.{Waiting, among}
-use Rattle.tables.proofs.Targets.{some_is_the_job}
+-- No job waits for one beyond the last.
+use Rattle.std.proofs.Common.{sym, ◌∙◌}
+use Rattle.std.proofs.lemmas.Bool.{le-ltb}
+use Rattle.book.proofs.Seen.{none_waits_beyond}
 use Rattle.book.proofs.store.questions.BookTable.waits_for.Goals as goal
-use borrow.Author.Tests.{tests}
 
-pub returns : goal.returns
-returns c =
-    let targets = c.targets_in.result.now in
-    let is_job : ℕ → Bool = λ t. eqb t c.args.job in
-    any_from_yields_List is_job _ _ c.any.result c.any.ensures.ran (YieldsList-from_slice targets cc) (λ x b q k. search (rules, tests))
-    ∙ some_is_the_job c.args.job targets
-    ∙ ap (among c.args.job) c.targets_in.ensures
-    ∙ ap (λ (w : Waiting). among c.args.job w.targets) c.stored.ensures.value
+pub returns-else-job-self : goal.returns-else-job-self
+returns-else-job-self c =
+    let b = c.self.inside in
+    rw (← c.self.view_is) (le-ltb c.args.job b.jobs c.if-job-self.false ∙ sym (none_waits_beyond b.jobs b.groups c.self.invariant c.args.waiter c.args.job c.if-job-self.false))
