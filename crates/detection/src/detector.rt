@@ -72,14 +72,7 @@ fn run<T: TwoWayTable, C: Carrier>(
 {
     let before = carrier.handed_out();
     records.fill(RunRecord::blank());
-    let need = table.table.need(initiator as usize);
-    spread(
-        table,
-        initiator,
-        need,
-        &mut records[initiator as usize],
-        carrier,
-    );
+    spread(table, initiator, &mut records[initiator as usize], carrier);
     while let Some(message) = carrier.take() {
         deliver(table, message, records, carrier);
     }

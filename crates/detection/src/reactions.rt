@@ -1,7 +1,6 @@
 // What a job does when it lets go, when it spreads, and when a message reaches it.
 ghost use Rattle.std.specs.Prelude.{◌≡◌, ◌<◌, length, slice_set};
 ghost use Rattle.carriers.specs.Meaning.{Sent};
-ghost use Rattle.rows.specs.Waiting.{at};
 ghost use Rattle.exchange.specs.Messages.{receiver as goes_to};
 ghost use Rattle.exchange.specs.Rules.{let_go, close_notice, spread as spreading, react as reacting};
 ghost use Rattle.exchange.specs.Runs.{reaction};
@@ -33,18 +32,16 @@ fn release<T: TwoWayTable, C: Carrier>(
 pub fn spread<T: TwoWayTable, C: Carrier>(
     table: &LawfulTable<T>,
     job: u8,
-    need: u8,
     own: &mut RunRecord,
     carrier: &mut C,
 )
-    requires need { need ≡ (at (T.Table.rows table.now.table.now) job).need }
-    requires room { RoomFor (C.Carrier.carried carrier.old) (spreading (T.Table.rows table.now.table.now) job own.old).puts }
+    requires { RoomFor (C.Carrier.carried carrier.old) (spreading (T.Table.rows table.now.table.now) job own.old).puts }
     ensures own { own.new ≡ (spreading (T.Table.rows table.now.table.now) job own.old).becomes }
     ensures sent { Sent (C.Carrier.carried carrier.old) (C.Carrier.carried carrier.new) (spreading (T.Table.rows table.now.table.now) job own.old).puts }
 {
     own.notified = true;
     own.dones_due = send_notifies(table, job, carrier);
-    if need == 0 {
+    if table.table.need(job as usize) == 0 {
         release(table, job, own, carrier);
     }
 }
@@ -81,12 +78,11 @@ fn react<T: TwoWayTable, C: Carrier>(
 {
     let wait = message.wait;
     let job = receiver(message);
-    let need = table.table.need(job as usize);
     match (message.kind, own.notified, own.free) {
         (Kind::Notify, true, _) => send(carrier, Kind::Done, wait),
         (Kind::Notify, false, _) => {
             own.notified_by = Some(wait);
-            spread(table, job, need, own, carrier);
+            spread(table, job, own, carrier);
         }
         (Kind::Done, _, _) => {
             own.dones_due -= 1;
@@ -94,7 +90,7 @@ fn react<T: TwoWayTable, C: Carrier>(
                 close_notice(own, carrier);
             }
         }
-        (Kind::Grant, _, false) if own.granted + 1 == need as u16 => {
+        (Kind::Grant, _, false) if own.granted + 1 == table.table.need(job as usize) as u16 => {
             own.granted += 1;
             own.freed_by = Some(wait);
             release(table, job, own, carrier);
@@ -110,7 +106,7 @@ fn react<T: TwoWayTable, C: Carrier>(
         (Kind::Ack, _, _) => {
             own.acks_due -= 1;
             if own.acks_due == 0 {
-                if need == 0 {
+                if table.table.need(job as usize) == 0 {
                     close_notice(own, carrier);
                 } else {
                     send_on(carrier, Kind::Ack, own.freed_by);

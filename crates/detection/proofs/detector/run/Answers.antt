@@ -18,10 +18,7 @@ all_are_blank g c =
 pub spread-requires : goal.spread-requires
 spread-requires g c =
     let blanks = all_are_blank g (goal.at.spread-requires g c).After-fill in
-    record {
-      need = c.need-need.ensures;
-      room = spread_has_room c.args.table.now.tabled c.requires.job blanks (g.C.Carrier.carried c.args.carrier.now) c.requires.waiting c.requires.room;
-    }
+    spread_has_room c.args.table.now.tabled c.requires.job blanks (g.C.Carrier.carried c.args.carrier.now) c.requires.waiting c.requires.room
 
 pub loop-message-init : goal.loop-message-init
 loop-message-init g c =

@@ -24,7 +24,7 @@ frees g c = record {
   grant = c.in-Grant-default-false.is-0;
   receiver = c.receiver-job.ensures;
   unfree = c.in-Grant-default-false.is-2;
-  enough = c.if-own-need.true ∙ c.need-need.ensures;
+  enough = c.if-own-need.true ∙ c.need.ensures;
 }
 
 no_waiters : (g : given.Over) (c : Then-due-eq0 g) → length (waiters (g.T.Table.rows c.args.table.now.table.now) c.receiver-job.result) ≡ 0

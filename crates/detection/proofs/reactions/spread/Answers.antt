@@ -11,7 +11,7 @@ use Rattle.detection.proofs.reactions.spread.Goals as goal
 use Rattle.detection.proofs.reactions.spread.Goals.{Then-need-eq0}
 
 active : (g : given.Over) (c : Then-need-eq0 g) → (at (g.T.Table.rows c.args.table.now.table.now) c.args.job).need ≡ 0
-active g c = sym c.requires.need ∙ c.if-need-eq0.true
+active g c = sym c.need.ensures ∙ c.if-need-eq0.true
 
 pub release-requires : goal.release-requires
 release-requires g c =
@@ -20,7 +20,7 @@ release-requires g c =
     let between = g.C.Carrier.carried c.send_notifies-own.new.carrier in
     let sent = c.send_notifies-own.ensures.sent in
     let puts = active_job_puts_both rows c.args.job c.args.own.now (active g (goal.at.release-requires g c).Then-need-eq0) in
-    record { room = omega (arith, length-sent before between (notifies rows c.args.job) sent, sent.capacity, puts, c.requires.room) }
+    record { room = omega (arith, length-sent before between (notifies rows c.args.job) sent, sent.capacity, puts, c.requires) }
 
 pub returns-then-need-eq0 : goal.returns-then-need-eq0
 returns-then-need-eq0 g c =
