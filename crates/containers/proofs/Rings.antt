@@ -1,8 +1,8 @@
 -- The cells of a ring in their order from a head, and what a put and a pop do to the first so many of them.
-use Rattle.std.proofs.Common.{◌≡◌, ℕ, suc, ◌+◌, ◌-◌, ◌<◌, ◌≤◌, ◌⊎◌, List, [], ◌∷◌, ◌++◌, length, get_or, take, drop, set, sym, ap, ◌∙◌, inl, inr, append_assoc, append-nil, arith, length-append, length-drop}
+use Rattle.std.proofs.Common.{◌≡◌, ℕ, suc, ◌+◌, ◌-◌, ◌<◌, ◌≤◌, List, [], ◌∷◌, ◌++◌, length, get_or, take, drop, set, sym, ap, ◌∙◌, inl, inr, append_assoc, append-nil, arith, length-append, length-drop}
 use lib.Seq.{take-set-lt}
 use Rattle.std.proofs.lemmas.List.{drop-set-add, take-set-le, set-append_left, set-append_right, drop-set-lt, length-take, take_more, drop_more, take_more_set, take-append-le, take_all, drop_all}
-use Rattle.containers.specs.Rings.{turned}
+use Rattle.containers.specs.Rings.{turned, IsCellAfter}
 
 -- Turning loses no cell.
 pub length-turned : {X : Type 0} (h : ℕ) (cells : List X) → length (turned h cells) ≡ length cells
@@ -60,7 +60,7 @@ pub turned_set : {X : Type 0} (h n p : ℕ) (cells : List X) (x : X)
     → h < length cells
     → n < length cells
     → p < length cells
-    → (p ≡ h + n) ⊎ (p + length cells ≡ h + n)
+    → IsCellAfter (length cells) h n p
     → turned h (set cells p x) ≡ set (turned h cells) n x
 turned_set h n p cells x lh ln lp (inl e) =
     let lt : n < length cells - h = omega arith in
@@ -78,7 +78,7 @@ pub put_joins_ring : {X : Type 0} (h n p : ℕ) (cells : List X) (x : X)
     → h < length cells
     → n < length cells
     → p < length cells
-    → (p ≡ h + n) ⊎ (p + length cells ≡ h + n)
+    → IsCellAfter (length cells) h n p
     → take (n + 1) (turned h (set cells p x)) ≡ take n (turned h cells) ++ x ∷ []
 put_joins_ring h n p cells x lh ln lp cases =
     let l = length-turned h cells in
@@ -108,7 +108,7 @@ pub pop_leaves_ring : {X : Type 0} (h n p : ℕ) (cells : List X) (d : X)
     → 0 < n
     → n ≤ length cells
     → p < length cells
-    → (p ≡ h + 1) ⊎ (p + length cells ≡ h + 1)
+    → IsCellAfter (length cells) h 1 p
     → take n (turned h cells) ≡ get_or cells h d ∷ take (n - 1) (turned p cells)
 pop_leaves_ring h n p cells d lt pos ln lp (inl e) =
     rw e (head_further_drops_first h n cells d lt pos ln)

@@ -38,7 +38,7 @@ pub trait Container<T: Copy> {
     fn pop(&mut self) -> Option<T>
         ensures { Popped held gives result self.old self.new };
 
-    // The same into a lent place, a form that the project fixes; where none comes, it answers false, and that place stays as it
+    // The same into a lent place, a form that the rules fix; where none comes, it answers false, and that place stays as it
     // is too.
     fn take(&mut self, out: &mut T) -> bool
         ensures { Took held gives result self.old self.new out.old out.new }

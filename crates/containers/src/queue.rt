@@ -1,30 +1,32 @@
 // A queue: the record put first comes first.
-ghost use Rattle.std.specs.Prelude.{◌≡◌, ◌+◌, ◌<◌, ◌≤◌, ◌⊎◌, ◌∷◌, length};
+ghost use Rattle.std.specs.Prelude.{◌≡◌, ◌<◌, ◌∷◌, length};
 ghost use Rattle.containers.specs.Held.{vacant};
+ghost use Rattle.containers.specs.Rings.{IsCellAfter};
 ghost use Rattle.containers.specs.Orders.{first_loses_none};
 
 use crate::container::{Container, Full};
 use std::marker::Model;
 
-// The cells are a ring: the oldest record is in cell `head`, and the `len` records follow it round the end of the cells. These are
-// lent, since the project has no heap.
+// The cells are a ring: the oldest record is in cell `head`, the `len` records follow it round the end of the cells, and the next one
+// goes into cell `tail`. The cells are lent, since there is no heap.
 #[derive(Drop)]
 pub struct Queue<'a, T> {
     cells: &'a mut [T],
     head: usize,
+    tail: usize,
     len: usize,
 }
 
 impl<'a, T> Model for Queue<'a, T> {
-    ghost use Rattle.std.specs.Prelude.{◌-◌, ◌≤◌, length, take};
+    ghost use Rattle.std.specs.Prelude.{length, take};
     ghost use Rattle.containers.specs.Held.{Held};
-    ghost use Rattle.containers.specs.Rings.{turned};
+    ghost use Rattle.containers.specs.Rings.{turned, Ring};
 
     ghost Value = { Held T };
 
     ghost view = { λ q. record { items = take q.len (turned q.head q.cells.now); capacity = length q.cells.now } };
 
-    ghost invariant = { λ q. (q.len ≤ length q.cells.now) × (q.head ≤ length q.cells.now - 1) };
+    ghost invariant = { λ q. Ring (length q.cells.now) q.head q.tail q.len };
 }
 
 impl<'a, T: Copy> Queue<'a, T> {
@@ -35,6 +37,7 @@ impl<'a, T: Copy> Queue<'a, T> {
         Queue {
             cells,
             head: 0,
+            tail: 0,
             len: 0,
         }
     }
@@ -62,8 +65,8 @@ impl<'a, T: Copy> Container<T> for Queue<'a, T> {
         if self.len == room {
             return Err(Full);
         }
-        let place = cell_after(self.head, self.len, room);
-        self.cells[place] = element;
+        self.cells[self.tail] = element;
+        self.tail = next_cell(self.tail, room);
         self.len += 1;
         Ok(())
     }
@@ -72,23 +75,19 @@ impl<'a, T: Copy> Container<T> for Queue<'a, T> {
     fn pop(&mut self) -> Option<T> {
         self.len = self.len.checked_sub(1)?;
         let oldest = self.cells[self.head];
-        self.head = cell_after(self.head, 1, self.cells.len());
+        self.head = next_cell(self.head, self.cells.len());
         Some(oldest)
     }
 }
 
-// The cell `steps` after the cell `from` in a ring of `room` cells.
-fn cell_after(from: usize, steps: usize, room: usize) -> usize
-    requires { (from < room) × (steps ≤ room) }
+// The next cell in a ring of `room` cells.
+fn next_cell(cell: usize, room: usize) -> usize
+    requires { cell < room }
     ensures bound { result < room }
-    ensures cases { (result ≡ from + steps) ⊎ (result + room ≡ from + steps) }
+    ensures next { IsCellAfter room cell 1 result }
 {
-    let ahead = room - from;
-    if steps < ahead {
-        from + steps
-    } else {
-        steps - ahead
-    }
+    let next = cell + 1;
+    if next == room { 0 } else { next }
 }
 
 #[cfg(test)]

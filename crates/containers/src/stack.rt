@@ -8,7 +8,7 @@ ghost use Rattle.containers.specs.Orders.{last_loses_none};
 use crate::container::{Container, Full};
 use std::marker::Model;
 
-// The records are the first `len` cells, the newest last. The cells are lent, since the project has no heap; so their number in use
+// The records are the first `len` cells, the newest last. The cells are lent, since there is no heap; so their number in use
 // lies beside them.
 #[derive(Drop)]
 pub struct Stack<'a, T> {

@@ -5,7 +5,7 @@ use Rattle.std.proofs.lemmas.List.Sums.{sum_by_more}
 use Rattle.std.proofs.lemmas.Bool.{cases_lt}
 use Rattle.rows.specs.Waiting.{Waiting, idle, at}
 use Rattle.rows.specs.Law.{targets_max}
-use Rattle.tables.specs.Tables.{jobs_max, waiters, waits}
+use Rattle.tables.specs.Tables.{jobs_max, waits_max, waiters, waits}
 use Rattle.tables.proofs.Waiters.{waiters_from_are_few}
 use Rattle.exchange.proofs.Sound.{lawful_is_sound}
 use Rattle.detection.specs.Asked.{Tabled}
@@ -37,5 +37,5 @@ module _ (rows : List Waiting) (tabled : Tabled rows) where
         | inr l ↦ omega (arith, waits_of_all_rows rows jobs l, waits_of_all_rows rows (suc jobs) (omega arith))
       ]
 
-  pub waits_are_few : waits rows ≤ jobs_max * targets_max
+  pub waits_are_few : waits rows ≤ waits_max
   waits_are_few = omega (arith, waits_of_all_rows rows (length rows) (omega arith), first_rows_have_few_waits (length rows), tabled.few)

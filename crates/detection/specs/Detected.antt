@@ -7,7 +7,7 @@ use Rattle.tables.specs.Tables.{waits}
 use Rattle.tables.specs.Grants.{CanBeFreed}
 use Rattle.exchange.specs.Records.{blank}
 use Rattle.exchange.specs.Runs.{Exchange}
-use Rattle.exchange.specs.Bounds.{RunsBounded}
+use Rattle.exchange.specs.Bounds.{deliveries_per_wait, capacity_per_wait, RunsBounded}
 use Rattle.exchange.specs.declared.record.RunRecord.{RunRecord}
 use Rattle.detection.specs.declared.fault.DetectionFault.{DetectionFault}
 use Rattle.detection.specs.declared.fault.DetectionFault.TheVariants.{NoSuchJob, TooFewRecords, MessagesWait, CarrierTooSmall}
@@ -22,7 +22,7 @@ stop rows initiator records carrier =
     cond (nat_le (length rows) initiator) (Some NoSuchJob)
     (cond (nat_lt records (length rows)) (Some TooFewRecords)
     (cond (nat_lt 0 (length carrier.waiting)) (Some MessagesWait)
-    (cond (nat_lt carrier.capacity (2 * waits rows)) (Some CarrierTooSmall) None)))
+    (cond (nat_lt carrier.capacity (capacity_per_wait * waits rows)) (Some CarrierTooSmall) None)))
 
 -- The initiator is stuck exactly if it is not free when the run is over.
 abbrev pub verdict_of : RunRecord → Verdict
@@ -35,7 +35,7 @@ pub record Finished (rows : List Waiting) (initiator : ℕ) (was is : List RunRe
   pub run : Exchange rows initiator order (record { records = take (length rows) is; waiting = [] })
   -- the count is the length of that run, and at most four for each wait; so 16 bits hold it
   pub count : d.deliveries ≡ length order
-  pub few : d.deliveries ≤ 4 * waits rows
+  pub few : d.deliveries ≤ deliveries_per_wait * waits rows
   pub narrow : d.deliveries < 2 ^ 16
   -- records beyond the jobs are unchanged
   pub rest : drop (length rows) is ≡ drop (length rows) was

@@ -1,8 +1,8 @@
 // The detection: a run of the exchange from one job, over any table and any carrier.
 ghost use Rattle.std.specs.Prelude.{◌≡◌, ◌*◌, ◌<◌, ◌≤◌, length, MatchResult};
 ghost use Rattle.std.specs.Result.{result_err};
-ghost use Rattle.tables.specs.Tables.{jobs_max, waits as waits_of};
-ghost use Rattle.rows.specs.Law.{targets_max};
+ghost use Rattle.tables.specs.Tables.{waits_max, waits as waits_of};
+ghost use Rattle.exchange.specs.Bounds.{capacity_per_wait};
 ghost use Rattle.detection.specs.Detected.{stop, Finished, verdict_of};
 
 use crate::fault::DetectionFault;
@@ -47,7 +47,7 @@ pub fn detect<T: TwoWayTable, C: Carrier>(
 // How many waits a table has.
 fn waits<T: Table>(table: &T) -> usize
     ensures value { result ≡ waits_of (T.Table.rows table.now) }
-    ensures bound { result ≤ jobs_max * targets_max }
+    ensures bound { result ≤ waits_max }
 {
     // no chain with `sum`: it would ask that the sum of any first jobs fits, of which a loop's invariant speaks anyway
     let mut waits = 0;
@@ -67,7 +67,7 @@ fn run<T: TwoWayTable, C: Carrier>(
     requires job { initiator < length (T.Table.rows table.now.table.now) }
     requires records { length records.old ≡ length (T.Table.rows table.now.table.now) }
     requires waiting { length (C.Carrier.carried carrier.old).waiting ≡ 0 }
-    requires room { 2 * waits_of (T.Table.rows table.now.table.now) ≤ (C.Carrier.carried carrier.old).capacity }
+    requires room { capacity_per_wait * waits_of (T.Table.rows table.now.table.now) ≤ (C.Carrier.carried carrier.old).capacity }
     ensures { Finished (T.Table.rows table.now.table.now) initiator records.old records.new (C.Carrier.carried carrier.old) (C.Carrier.carried carrier.new) result }
 {
     let before = carrier.handed_out();

@@ -12,6 +12,14 @@ use Rattle.exchange.specs.Records.{blank}
 use Rattle.exchange.specs.Runs.{State, Exchange}
 use Rattle.exchange.specs.declared.record.RunRecord.{RunRecord}
 
+-- A run has at most so many deliveries for each wait.
+abbrev pub deliveries_per_wait : ℕ
+deliveries_per_wait = 4
+
+-- So many messages for each wait are on their way at most. A carrier that has room for these refuses none of a run.
+abbrev pub capacity_per_wait : ℕ
+capacity_per_wait = 2
+
 -- A DONE finds one due, and so does an ACK; a GRANT finds a job that was granted less often than it has targets. So no count
 -- falls below 0, and none rises above what a row allows.
 abbrev pub Due : List Waiting → Kind → Wait → RunRecord → Type 0
@@ -30,9 +38,9 @@ pub record Bounded (rows : List Waiting) (k : ℕ) (s : State) : Type 0 where
   -- each job has a record
   pub records : length s.records ≡ length rows
   -- there are at most four deliveries a wait, so every run ends
-  pub deliveries : k ≤ 4 * waits rows
+  pub deliveries : k ≤ deliveries_per_wait * waits rows
   -- there are never more than two messages a wait
-  pub messages : length s.waiting ≤ 2 * waits rows
+  pub messages : length s.waiting ≤ capacity_per_wait * waits rows
   pub awaited : AllByRecursion (Awaited rows s.records) s.waiting
 
 -- It holds at every moment of every run from an initiator, in whatever order the messages come.

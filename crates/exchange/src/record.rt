@@ -4,7 +4,7 @@ ghost use Rattle.exchange.specs.Records.{blank as unmarked};
 
 use carriers::Wait;
 
-// `notified_by` and `freed_by` are the waits on which the first NOTIFY and the freeing GRANT came. The project fixes the seven entries,
+// `notified_by` and `freed_by` are the waits on which the first NOTIFY and the freeing GRANT came. The rules fix the seven entries,
 // of which the first two are yes or no.
 #[derive(Clone, Copy, Drop)]
 pub struct RunRecord {

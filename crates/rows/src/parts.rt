@@ -1,6 +1,7 @@
 // Looking through targets, and placing them in a row.
 ghost use Rattle.std.specs.Prelude.{◌≡◌, ◌-◌, ◌<◌, ◌≤◌, length, take};
 ghost use Rattle.std.specs.List.{remove};
+ghost use Rattle.rows.specs.Waiting.{among};
 ghost use Rattle.rows.specs.Law.{targets_max, counts_fit, rising, row_fits};
 ghost use Rattle.rows.specs.Changes.{first_wrong};
 ghost use Rattle.rows.specs.Places.{Placed};
@@ -26,6 +27,15 @@ pub fn place_of(targets: &[u8], job: usize) -> Option<usize>
     ensures { Placed job targets.now result }
 {
     targets.iter().position(|target| *target as usize == job)
+}
+
+// Whether a job stands at some of the places, in use or not. All are compared, with no early exit, so that it can be done at once.
+pub fn stands_somewhere(places: &[u8; TARGETS_MAX], job: u8) -> bool
+    ensures { result ≡ among job places.now }
+{
+    places
+        .iter()
+        .fold(false, |found, place| found | (*place == job))
 }
 
 // The place of the first target that is not below `jobs`, is the job itself, or is not above the one before it.

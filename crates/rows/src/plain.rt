@@ -9,7 +9,7 @@ ghost use Rattle.rows.specs.Law.{sound};
 // How many targets a row has at most.
 pub const TARGETS_MAX: usize = 16;
 
-// A row as it is stored: the first `count` of the targets are in use. The project fixes this form, which is copied into lent memory.
+// A row as it is stored: the first `count` of the targets are in use. The rules fix this form, which is copied into lent memory.
 #[derive(Clone, Copy, Debug)]
 pub struct PlainRow {
     pub need: u8,

@@ -1,11 +1,15 @@
 -- What a table tells of its rows.
-use Rattle.std.specs.Prelude.{ℕ, ◌+◌, Bool, true, cond, ◌&&◌, List, [], ◌∷◌, length, Some, None, sum_by, Option, nat_le}
+use Rattle.std.specs.Prelude.{ℕ, ◌+◌, ◌*◌, Bool, true, cond, ◌&&◌, List, [], ◌∷◌, length, Some, None, sum_by, Option, nat_le}
 use Rattle.rows.specs.Waiting.{Waiting, among}
-use Rattle.rows.specs.Law.{row_fits}
+use Rattle.rows.specs.Law.{targets_max, row_fits}
 
 -- How many jobs a table has at most.
 abbrev pub jobs_max : ℕ
 jobs_max = 256
+
+-- How many waits a table has at most.
+abbrev pub waits_max : ℕ
+waits_max = jobs_max * targets_max
 
 -- Every row obeys the row law among n jobs; `job` is the job of the first.
 abbrev pub rows_fit : (n job : ℕ) → List Waiting → Bool

@@ -3,6 +3,7 @@ ghost use Rattle.std.specs.Prelude.{◌≡◌};
 ghost use Rattle.rows.specs.Waiting.{among};
 ghost use Rattle.rows.specs.Views.{waiting, waiting_of};
 
+use crate::parts::stands_somewhere;
 use crate::plain::{PlainRow, Row};
 
 impl PlainRow {
@@ -19,8 +20,8 @@ impl PlainRow {
     pub fn waits_for(&self, job: u8) -> bool
         ensures { result ≡ among job (waiting self.now).targets }
     {
-        // most rows do not: all sixteen places are compared at once, and those in use are looked at only where one is the job
-        self.targets.contains(&job) && self.in_use().contains(&job)
+        // most rows do not: those in use are looked at only where the job stands at some place
+        stands_somewhere(&self.targets, job) && self.in_use().contains(&job)
     }
 }
 

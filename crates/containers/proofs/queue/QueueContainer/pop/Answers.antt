@@ -6,8 +6,9 @@ use Rattle.containers.proofs.queue.QueueContainer.pop.Goals as goal
 pub returns : goal.returns
 returns g c =
     let q = c.self.inside in
-    let next = c.cell_after-self-inside in
-    let head-less : q.head < length q.cells.now = omega arith in
+    let ring = c.self.invariant in
+    let next = c.next_cell-self-inside in
     let fewer : c.in_ok-self-inside.field-0 ≡ q.len - 1 = search rules in
+    let head-less : q.head < length q.cells.now = omega (arith, ring.head, ring.few) in
     rw (← c.self.view_is, fewer)
-    (pop_leaves_ring q.head q.len next.result q.cells.now _ head-less (omega arith) (omega arith) next.ensures.bound next.ensures.cases, search rules)
+    (pop_leaves_ring q.head q.len next.result q.cells.now _ head-less (omega arith) (omega (arith, ring.few)) next.ensures.bound next.ensures.next, search rules)

@@ -6,7 +6,8 @@ use Rattle.containers.proofs.queue.QueueContainer.put.Goals as goal
 pub returns-clause-after : goal.returns-clause-after
 returns-clause-after g c =
     let q = c.self.inside in
-    let place = c.cell_after-place in
-    let head-less : q.head < length q.cells.now = omega arith in
-    let len-less : q.len < length q.cells.now = omega arith in
-    rw (← c.self.view_is, put_joins_ring q.head q.len place.result q.cells.now c.args.element head-less len-less place.ensures.bound place.ensures.cases) (search rules)
+    let ring = c.self.invariant in
+    let head-less : q.head < length q.cells.now = omega (arith, ring.head, ring.few) in
+    let len-less : q.len < length q.cells.now = omega (arith, ring.few) in
+    let tail-less : q.tail < length q.cells.now = omega (arith, ring.tail) in
+    rw (← c.self.view_is, put_joins_ring q.head q.len q.tail q.cells.now c.args.element head-less len-less tail-less ring.after) (search rules)
