@@ -1,9 +1,9 @@
 -- Looking through targets: what the scans find.
-use Rattle.std.proofs.Common.{◌≡◌, ℕ, zero, suc, ◌+◌, ◌<◌, ◌≤◌, true, false, Bool, eqb, leb, ltb, ◌||◌, List, [], ◌∷◌, length, get_or, position, Some, Option, sym, refl, ap, ◌∙◌, inl, inr, ⊎_elim, arith}
+use Rattle.std.proofs.Common.{◌≡◌, ℕ, zero, suc, ◌+◌, ◌*◌, ◌<◌, ◌≤◌, true, false, not, cond, Bool, eqb, leb, ltb, ◌||◌, List, [], ◌∷◌, length, map, get_or, position, Some, Option, sym, refl, ap, ◌∙◌, inl, inr, ⊎_elim, arith}
 use Rattle.std.proofs.lemmas.Bool.{cases_Bool, cases_lt, and_from, le-leb, lt-ltb, le-ltb}
-use Rattle.std.proofs.Math.Bool.{or_assoc, or-false}
 use Rattle.std.proofs.lemmas.Bool.Decides.{nat_tests}
-use Rattle.std.specs.List.{AllAdjacentBelow, IsAllAdjacentAnswer, position_or_len, fold}
+use Rattle.std.specs.List.{AllAdjacentBelow, IsAllAdjacentAnswer, position_or_len}
+use Rattle.std.specs.Simd.Lanes.{mask_l}
 use Rattle.rows.specs.Waiting.{among}
 use Rattle.rows.specs.Law.{rising}
 use Rattle.rows.specs.Places.{Placed}
@@ -59,7 +59,11 @@ position_is_placed u ts found h =
       | inr l ↦ rw (h, le-ltb first (length ts) l) (not_among_where_no_position u ts l)
     ]
 
--- Some place is the job, all being compared.
-pub some_of_all_is_the_job : (u : ℕ) (found : Bool) (ts : List ℕ) → fold (λ (f : Bool) t. f || eqb t u) found ts ≡ (found || among u ts)
-some_of_all_is_the_job u found [] = sym (or-false found)
-some_of_all_is_the_job u found (t ∷ ts) = some_of_all_is_the_job u (found || eqb t u) ts ∙ or_assoc found (eqb t u) (among u ts)
+-- Some bit is set of the mask that tells the places of a job.
+set_bit_is_no_0 : (b : Bool) (n : ℕ) → not (eqb (cond b 1 0 + 2 * n) 0) ≡ (b || not (eqb n 0))
+set_bit_is_no_0 true n = grind (arith, nat_tests)
+set_bit_is_no_0 false n = grind (arith, nat_tests)
+
+pub some_bit_is_the_job : (u : ℕ) (ts : List ℕ) → not (eqb (mask_l (map (λ t. eqb t u) ts)) 0) ≡ among u ts
+some_bit_is_the_job u [] = refl
+some_bit_is_the_job u (t ∷ ts) = set_bit_is_no_0 (eqb t u) (mask_l (map (λ t. eqb t u) ts)) ∙ ap (λ b. eqb t u || b) (some_bit_is_the_job u ts)

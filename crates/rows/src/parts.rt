@@ -7,6 +7,8 @@ ghost use Rattle.rows.specs.Changes.{first_wrong};
 ghost use Rattle.rows.specs.Places.{Placed};
 
 use crate::plain::TARGETS_MAX;
+use std::simd::cmp::SimdPartialEq;
+use std::simd::u8x16;
 
 // Whether a row may have this need and so many targets.
 pub fn counts_fit(need: u8, count: usize) -> bool
@@ -33,9 +35,10 @@ pub fn place_of(targets: &[u8], job: usize) -> Option<usize>
 pub fn stands_somewhere(places: &[u8; TARGETS_MAX], job: u8) -> bool
     ensures { result ≡ among job places.now }
 {
-    places
-        .iter()
-        .fold(false, |found, place| found | (*place == job))
+    u8x16::from_array(*places)
+        .simd_eq(u8x16::splat(job))
+        .to_bitmask()
+        != 0
 }
 
 // The place of the first target that is not below `jobs`, is the job itself, or is not above the one before it.

@@ -1,13 +1,10 @@
--- A job stands somewhere just where it is among the places.
-use Rattle.std.proofs.Common.{ℕ, Bool, false, ◌||◌, eqb, rules, ◌∙◌}
-use Rattle.std.proofs.lemmas.Iterator.{YieldsList-from_slice}
-use Rattle.std.proofs.lemmas.Iterator.Consumers.{fold_from_yields_List}
-use Rattle.rows.proofs.Scans.{some_of_all_is_the_job}
+-- A bit of the mask is set just where the job is among the places.
+use Rattle.std.proofs.Common.{eqb, not, ap, ◌∙◌, w8, arith}
+use Rattle.std.proofs.lemmas.Simd.{bitmask_splat}
+use Rattle.rows.proofs.Scans.{some_bit_is_the_job}
 use Rattle.rows.proofs.parts.stands_somewhere.Goals as goal
-use borrow.Author.Tests.{tests}
 
 pub returns : goal.returns
 returns c =
-    let or_is : Bool → ℕ → Bool = λ found t. found || eqb t c.args.job in
-    fold_from_yields_List _ or_is false c.fold.result c.fold.ensures.ran (YieldsList-from_slice c.args.places.now cc) (λ a x b q k. search (rules, tests))
-    ∙ some_of_all_is_the_job c.args.job false c.args.places.now
+    ap (λ mask. not (eqb mask 0)) (bitmask_splat w8 eqb c.args.places.now 16 c.args.job (omega (arith, c.told-places)) (omega arith))
+    ∙ some_bit_is_the_job c.args.job c.args.places.now
