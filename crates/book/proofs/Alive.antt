@@ -8,11 +8,10 @@ use Rattle.exchange.specs.declared.record.RunRecord.{RunRecord}
 use Rattle.rows.specs.Waiting.{Waiting}
 use Rattle.groups.specs.State.{State}
 use Rattle.book.specs.Events.{Event, Life, begins, lives}
-use Rattle.book.specs.Law.{new_book}
-use Rattle.book.specs.Lent.{Lent}
-use Rattle.book.specs.Moments.{answer_at, seen_at, written_by, Happened, nothing, then, Lived}
+use Rattle.book.specs.Creation.{new_book}
+use Rattle.book.specs.Lent.{Lent, lent}
+use Rattle.book.specs.Moments.{answer_at, seen_at, written_by, AreEvents, nothing, then, Lived}
 use Rattle.book.specs.Performing.{Performed}
-use Rattle.book.specs.ScriptRuns.{lent}
 use Rattle.book.specs.Snapshots.{snapshot_view}
 use Rattle.book.specs.Subjects.{of_book, view_of}
 use Rattle.book.specs.declared.life.call.Answer.{Answer}
@@ -32,7 +31,7 @@ module _ (jobs mark memory : ℕ) (before : Lent) where
   -- A book is in a state after calls that have happened, with moments for them; so many answer bytes are written.
   pub record Alive (ks : List Call) (ms : List Moment) (s : State Waiting) (records : List RunRecord) (carrier : Carried) (answers : List ℕ) (written : ℕ) : Type 0 where
     pub events : List Event
-    pub happened : Happened before ks (map answer_at ms) events (take written answers) (lent records carrier (drop written answers))
+    pub happened : AreEvents before ks (map answer_at ms) events (take written answers) (lent records carrier (drop written answers))
     pub life : Life of_book (new_book jobs mark memory) events (map seen_at ms) s
     pub inside : written ≤ length answers
 
@@ -49,10 +48,10 @@ module _ (jobs mark memory : ℕ) (before : Lent) where
       record {
         events = alive.events ++ p.event ∷ [];
         happened =
-            subst (λ rs. Happened before (ks ++ k ∷ []) rs (alive.events ++ p.event ∷ []) (take (written + written_by a) (take written answers ++ rest)) (lent is after (drop (written + written_by a) (take written answers ++ rest))))
+            subst (λ rs. AreEvents before (ks ++ k ∷ []) rs (alive.events ++ p.event ∷ []) (take (written + written_by a) (take written answers ++ rest)) (lent is after (drop (written + written_by a) (take written answers ++ rest))))
             (sym (map-append answer_at ms (moment ∷ [])))
-            (subst (λ bs. Happened before (ks ++ k ∷ []) (map answer_at ms ++ a ∷ []) (alive.events ++ p.event ∷ []) bs (lent is after (drop (written + written_by a) (take written answers ++ rest)))) more
-            (subst (λ bs. Happened before (ks ++ k ∷ []) (map answer_at ms ++ a ∷ []) (alive.events ++ p.event ∷ []) (take written answers ++ take (written_by a) rest) (lent is after bs)) less
+            (subst (λ bs. AreEvents before (ks ++ k ∷ []) (map answer_at ms ++ a ∷ []) (alive.events ++ p.event ∷ []) bs (lent is after (drop (written + written_by a) (take written answers ++ rest)))) more
+            (subst (λ bs. AreEvents before (ks ++ k ∷ []) (map answer_at ms ++ a ∷ []) (alive.events ++ p.event ∷ []) (take written answers ++ take (written_by a) rest) (lent is after bs)) less
             (then alive.happened p.happens)));
         life =
             subst (λ vs. Life of_book (new_book jobs mark memory) (alive.events ++ p.event ∷ []) vs s') (sym (map-append seen_at ms (moment ∷ [])))

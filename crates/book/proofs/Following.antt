@@ -9,7 +9,7 @@ use Rattle.groups.proofs.Shown.{shows_face, write_shows, open_shows, keep_shows,
 use Rattle.groups.proofs.Viewed.{length-restored}
 use Rattle.book.specs.Calls.{Edit, Call, edits, opens, keeps, cancels, job_of, next_row, changed}
 use Rattle.book.specs.Answers.{Answer, accepted, answer, says, after}
-use Rattle.book.specs.History.{answers, counted, fed, terms, Shows, Follows, Called}
+use Rattle.book.specs.History.{answers, listed, fed, terms, Shows, Follows, Called}
 
 -- no call changes the number of jobs
 pub length-changed : (s : State Waiting) (c : Call) → length (changed s c).rows ≡ length s.rows
@@ -18,7 +18,7 @@ length-changed s opens = refl
 length-changed s (keeps mark depth) = refl
 length-changed s (cancels mark depth) = length-restored s.rows s.groups
 
-changed_shows : (first : List Waiting) (s : State Waiting) (c : Call) (h : History Edit) → ShowsFrom job_of next_row first s h → ShowsFrom job_of next_row first (changed s c) (counted h c)
+changed_shows : (first : List Waiting) (s : State Waiting) (c : Call) (h : History Edit) → ShowsFrom job_of next_row first s h → ShowsFrom job_of next_row first (changed s c) (listed h c)
 changed_shows first s (edits e) h w = write_shows job_of next_row first s e h w
 changed_shows first s opens h w = open_shows job_of next_row first s h w
 changed_shows first s (keeps mark depth) h w = keep_shows job_of next_row first s h w
@@ -30,8 +30,8 @@ says_answers s c h w = ap (λ f. answer s.mark s.room f c) (shows_face job_of ne
 pub after_shows : (s : State Waiting) (c : Call) (h : History Edit) → Shows s h → Shows (after s c) (fed (terms s) h c)
 after_shows s c h w = go (accepted (says s c)) (accepted (answers (terms s) h c)) (ap accepted (says_answers s c h w))
   where
-    go : (a b : Bool) → a ≡ b → Shows (cond a (changed s c) s) (cond b (counted h c) h)
-    go true true e = subst (λ n. ShowsFrom job_of next_row (replicate n idle) (changed s c) (counted h c)) (sym (length-changed s c)) (changed_shows (replicate (length s.rows) idle) s c h w)
+    go : (a b : Bool) → a ≡ b → Shows (cond a (changed s c) s) (cond b (listed h c) h)
+    go true true e = subst (λ n. ShowsFrom job_of next_row (replicate n idle) (changed s c) (listed h c)) (sym (length-changed s c)) (changed_shows (replicate (length s.rows) idle) s c h w)
     go false false e = w
     go true false e = absurd (cc e)
     go false true e = absurd (cc e)

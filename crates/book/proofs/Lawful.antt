@@ -10,8 +10,7 @@ use Rattle.groups.specs.declared.store.Ending.{Ending}
 use Rattle.groups.specs.declared.store.Ending.TheVariants.{Keep, Cancel}
 use Rattle.groups.specs.Tickets.{ended_as}
 use Rattle.groups.specs.State.{State, fresh, written, kept, cancelled}
-use Rattle.groups.specs.Obeys.{Obeys}
-use Rattle.groups.proofs.Obeyed.{fresh_obeys, written_obeys, kept_obeys, cancelled_obeys}
+use Rattle.groups.proofs.Obeyed.{Obeys, fresh_obeys, written_obeys, kept_obeys, cancelled_obeys}
 use Rattle.groups.proofs.Viewed.{length-restored}
 use Rattle.book.specs.Memory.{Lawful}
 

@@ -1,5 +1,6 @@
 pub mod Alive
 pub mod Following
+pub mod Granting
 pub mod Lives
 pub mod Lawful
 pub mod Reading

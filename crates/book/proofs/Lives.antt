@@ -1,22 +1,16 @@
 -- Whatever happens to a book happens to the history that it shows.
-use Rattle.std.proofs.Common.{◌≡◌, ℕ, List, [], ◌∷◌, ◌++◌, length, Result, Ok, Err, MatchResult, sym, refl, ap, ◌∙◌, subst}
-use Rattle.std.specs.Result.{result_err}
+use Rattle.std.proofs.Common.{◌≡◌, ℕ, List, [], ◌∷◌, ◌++◌, length, sym, refl, ap, ◌∙◌, subst}
 use Rattle.std.proofs.lemmas.List.{length-replicate}
-use Rattle.carriers.specs.Meaning.{Carried}
 use Rattle.rows.specs.Waiting.{Waiting, idle}
 use Rattle.groups.specs.History.{History, begun}
 use Rattle.groups.specs.State.{State}
-use Rattle.exchange.specs.declared.record.RunRecord.{RunRecord}
-use Rattle.detection.specs.Detected.{stop, Finished}
 use Rattle.detection.specs.Detects.{Detects}
-use Rattle.detection.specs.declared.fault.DetectionFault.{DetectionFault}
-use Rattle.detection.specs.declared.verdict.Detection.{Detection}
 use Rattle.book.specs.Answers.{Answer}
 use Rattle.book.specs.Calls.{Call, Edit}
 use Rattle.book.specs.Events.{Event, made, Does, calls, detects, scripts, Life, begins, lives}
 use Rattle.book.specs.History.{Terms, Called, face_of}
-use Rattle.book.specs.Law.{LawOfLives, new_book, new_terms}
-use Rattle.book.specs.Limits.{created}
+use Rattle.book.specs.Law.{LawOfLives}
+use Rattle.book.specs.Creation.{created, new_book, new_terms}
 use Rattle.book.specs.Subjects.{of_book, of_history, View, view_of}
 use Rattle.book.proofs.Following.{fresh_shows}
 use Rattle.book.proofs.Simulated.{Stands, same_rows, same_depth, same_answer, stands_after, scripted_so}
@@ -24,14 +18,6 @@ use Rattle.book.proofs.Simulated.{Stands, same_rows, same_depth, same_answer, st
 -- a call, as it was promised
 pub call_does : {s s' : State Waiting} {c : Call} {a : Answer} → Called s c a s' → Does of_book s (made c a) s'
 call_does k = rw (k.value, k.after) calls
-
--- a detection that is stopped leaves the carrier, and so what it means
-pub detects_meant : {C : Type 0} (carried : C → Carried) (rows : List Waiting) (job : ℕ) (was is : List RunRecord) (before after : C) (r : Result Detection DetectionFault)
-    → result_err r ≡ stop rows job (length was) (carried before)
-    → MatchResult r (λ d. Finished rows job was is (carried before) (carried after) d) (λ _. (is ≡ was) × (after ≡ before))
-    → Detects rows job was is (carried before) (carried after) r
-detects_meant carried rows job was is before after (Ok d) s p = record { stopped = s; left = p }
-detects_meant carried rows job was is before after (Err e) s p = record { stopped = s; left = (p.0, ap carried p.1) }
 
 module _ (t : Terms) where
   same_view : {s : State Waiting} {h : History Edit} → Stands t s h → view_of of_book s ≡ view_of (of_history t) h

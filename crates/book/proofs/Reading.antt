@@ -9,7 +9,7 @@ use Rattle.book.specs.declared.script.tally.Position.{Position}
 use Rattle.book.specs.Answers.{done, accepted, says, after}
 use Rattle.book.specs.Calls.{cancels, changed}
 use Rattle.book.specs.Commands.{Command, whole, head}
-use Rattle.book.specs.Scripts.{Progress, Carries, Stops, Steps, Reads, carries, stops, strange, finishes, faults, steps, unreadable, cancel_groups}
+use Rattle.book.specs.Scripts.{Progress, CarriesOut, Stops, Steps, Reads, carries, stops, strange, finishes, faults, steps, unreadable, cancel_groups}
 use Rattle.book.specs.Subjects.{of_book}
 
 module _ {unread : List ℕ} {p : Progress (State Waiting)} {m : ℕ} where
@@ -22,7 +22,7 @@ module _ {unread : List ℕ} {p : Progress (State Waiting)} {m : ℕ} where
   stopped_step {q} c n (Ok u) fault e h s z = absurd h
   stopped_step {q} c n (Err f) fault e h s z = rw (h, s.1, z) (stops e s.0)
 
-  pub carried_step : {q : Progress (State Waiting)} (c : Command) (n : ℕ) → head unread ≡ whole c n → Carries of_book p c q → n ≡ m → Steps of_book unread p None q m
+  pub carried_step : {q : Progress (State Waiting)} (c : Command) (n : ℕ) → head unread ≡ whole c n → CarriesOut of_book p c q → n ≡ m → Steps of_book unread p None q m
   carried_step {q} c n e s z = rw (← z) (carries e s)
 
 -- What remains to be read leads where the whole script leads.
@@ -30,9 +30,6 @@ pub record Underway (script : List ℕ) (here : Position) (p : Progress (State W
   pub behind : now.index ≤ now.offset
   pub inside : now.offset ≤ length script
   pub leads : (o : Option ScriptFault) (there : Position) (r : Progress (State Waiting)) → Reads of_book (drop now.offset script) now q o there r → Reads of_book (drop here.offset script) here p o there r
-
-pub underway_first : (script : List ℕ) (here : Position) (p : Progress (State Waiting)) → (here.index ≤ here.offset) × (here.offset ≤ length script) → Underway script here p here p
-underway_first script here p l = record { behind = l.0; inside = l.1; leads = λ o there r reads. reads }
 
 pub underway_next : {script : List ℕ} {here now : Position} {p q r : Progress (State Waiting)} → Underway script here p now q → (place : ℕ)
     → Steps of_book (drop now.offset script) q None r (place - now.offset) → (now.offset < place) × (place ≤ length script)

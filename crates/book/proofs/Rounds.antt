@@ -8,13 +8,13 @@ use Rattle.groups.proofs.Stepped.{same_state}
 use Rattle.book.specs.declared.fault.BookFault.TheVariants.{TooDeep}
 use Rattle.book.specs.Calls.{Edit, edits, opens, keeps, cancels, job_of, next_row, changed}
 use Rattle.book.specs.History.{Called}
-use Rattle.book.specs.Answers.{Answer, ticket, stop, accepted, says, after}
+use Rattle.book.specs.Answers.{Answer, ticket, refusal, accepted, says, after}
 
 -- what an opening that gives a ticket says of it, and does
 ticket_given : (s : State Waiting) (m d : ℕ) → ticket m d ≡ says s opens → (m ≡ s.mark) × (d ≡ (face s).depth + 1) × (after s opens ≡ opened s)
 ticket_given s m d e = go (ltb (face s).depth 8) e
   where
-    go : (q : Bool) → ticket m d ≡ cond q (ticket s.mark ((face s).depth + 1)) (stop TooDeep) → (m ≡ s.mark) × (d ≡ (face s).depth + 1) × (cond (accepted (cond q (ticket s.mark ((face s).depth + 1)) (stop TooDeep))) (opened s) s ≡ opened s)
+    go : (q : Bool) → ticket m d ≡ cond q (ticket s.mark ((face s).depth + 1)) (refusal TooDeep) → (m ≡ s.mark) × (d ≡ (face s).depth + 1) × (cond (accepted (cond q (ticket s.mark ((face s).depth + 1)) (refusal TooDeep))) (opened s) s ≡ opened s)
     go true h = (cc, cc, refl)
     go false h = absurd (cc h)
 

@@ -16,8 +16,9 @@ use Rattle.book.specs.Calls.{Edit, Call, edits, opens, keeps, cancels, ends, cha
 use Rattle.book.specs.Commands.{Command}
 use Rattle.book.specs.History.{Terms, terms, face_of, answers, fed, Shows}
 use Rattle.book.specs.Lent.{Lent}
-use Rattle.book.specs.ScriptRuns.{Ran}
-use Rattle.book.specs.Scripts.{Progress, Carries, edited, opened, ended, answered, Stops, not_edited, not_opened, no_group, no_space, not_detected, Steps, carries, stops, strange, Reads, finishes, faults, steps, cancel_groups, script_answer, script_max, Worked, Refused, Scripted}
+use Rattle.book.specs.ScriptRuns.{RanScript}
+use Rattle.book.specs.Scripts.{Progress, CarriesOut, edited, opened, ended, answered, Stops, not_edited, not_opened, no_group, no_space, not_detected, Steps, carries, stops, strange, Reads, finishes, faults, steps, cancel_groups, script_answer, Worked, Refused, Scripted}
+use Rattle.book.specs.Limits.{script_max}
 use Rattle.book.specs.Subjects.{of_book, of_history}
 use Rattle.book.proofs.Following.{length-changed, says_answers, after_shows}
 
@@ -67,8 +68,8 @@ module _ (t : Terms) where
   abbrev on : Progress (State Waiting) → History Edit → Progress (History Edit)
   on p h = record { subject = h; lent = p.lent; written = p.written; groups = p.groups }
 
-  carries_so : {p q : Progress (State Waiting)} {c : Command} {h : History Edit} → Stands p.subject h → Carries of_book p c q
-      → (i : History Edit) × Carries (of_history t) (on p h) c (on q i) × Stands q.subject i
+  carries_so : {p q : Progress (State Waiting)} {c : Command} {h : History Edit} → Stands p.subject h → CarriesOut of_book p c q
+      → (i : History Edit) × CarriesOut (of_history t) (on p h) c (on q i) × Stands q.subject i
   carries_so {p} {h = h} w (edited {e = e} a) = (fed t h (edits e), edited (sym (same_answer w (edits e)) ∙ a), stands_after w (edits e))
   carries_so {p} {h = h} w (opened a) = (fed t h opens, opened (sym (same_answer w opens) ∙ a), stands_after w opens)
   carries_so {p} {h = h} w (ended {e = e} l a) =
@@ -134,10 +135,10 @@ module _ (t : Terms) where
       → (i : History Edit) × Scripted (of_history t) h l script a i l' × Stands s' i
   scripted_so l l' script a w k = scripted_if (nat_lt script_max (length script)) l l' script a w k
 
-pub ran : {s s' : State Waiting} (l l' : Lent) (script : List ℕ) (a : Result FinishedScript StoppedScript) → Scripted of_book s l script a s' l' → Ran s l script a s' l'
+pub ran : {s s' : State Waiting} (l l' : Lent) (script : List ℕ) (a : Result FinishedScript StoppedScript) → Scripted of_book s l script a s' l' → RanScript s l script a s' l'
 ran {s} l l' script a k = record { does = k; shows = λ h w. let r = scripted_so (terms s) l l' script a (record { told = refl; shows = w }) k in (r.0, r.1, r.2.shows) }
 
 -- a script that is not too long
-pub worked_ran : {s s' : State Waiting} {l l' : Lent} {script : List ℕ} {a : Result FinishedScript StoppedScript} → length script ≤ script_max → Worked of_book s l script a s' l' → Ran s l script a s' l'
+pub worked_ran : {s s' : State Waiting} {l l' : Lent} {script : List ℕ} {a : Result FinishedScript StoppedScript} → length script ≤ script_max → Worked of_book s l script a s' l' → RanScript s l script a s' l'
 worked_ran {s} {s'} {l} {l'} {script} {a} fits k =
     ran l l' script a (subst (λ q. MatchBool q (Refused of_book s l a s' l') (Worked of_book s l script a s' l')) (sym (le-ltb script_max (length script) fits)) k)

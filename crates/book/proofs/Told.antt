@@ -26,7 +26,7 @@ use Rattle.book.specs.declared.fault.RefusedEnding.{RefusedEnding}
 use Rattle.book.specs.declared.fault.BookFault.TheVariants.{NoSuchJob, Blocked, WrongCounts, TrailFull, GranterBlocked, NoSuchWait, TooDeep, NotInnermost}
 use Rattle.book.specs.Faults.{number, of_row, of_returned}
 use Rattle.book.specs.Calls.{Edit, Call, requests, grants, edits, opens, keeps, cancels, ends, job_of, next_row, changed}
-use Rattle.book.specs.Answers.{Answer, done, ticket, returned, stop, stop_at, accepted, says}
+use Rattle.book.specs.Answers.{Answer, done, ticket, returned, refusal, refused_at, accepted, says}
 use Rattle.book.specs.Views.{told, told_opening, told_ending, told_stub}
 use Rattle.book.specs.History.{Called}
 use Rattle.book.specs.Memory.{Lawful}
@@ -60,7 +60,7 @@ by_test s t w c a taken refused false false e y n qr ch f g =
 by_test s t w c a taken refused true false e y n qr ch f g = absurd (cc qr)
 by_test s t w c a taken refused false true e y n qr ch f g = absurd (cc qr)
 
-open_told : (q : Bool) (m d d' : ℕ) → d ≡ d' → told_opening (ok_or (cond {A = Option Ticket} q (Some (record { mark = m; depth = d + 1 })) None) TooDeep) ≡ cond q (ticket m (d' + 1)) (stop TooDeep)
+open_told : (q : Bool) (m d d' : ℕ) → d ≡ d' → told_opening (ok_or (cond {A = Option Ticket} q (Some (record { mark = m; depth = d + 1 })) None) TooDeep) ≡ cond q (ticket m (d' + 1)) (refusal TooDeep)
 open_told true m d d' f = ap (λ n. ticket m (n + 1)) f
 open_told false m d d' f = refl
 
@@ -96,7 +96,7 @@ module _ (n : ℕ) (s t : State PlainRow) where
   open_called r e f =
       let d = view_depth n waiting s in
       let q = ltb (face s).depth 8 in
-      by_test (view n waiting s) (view n waiting t) (opened (view n waiting s)) opens _ (ticket s.mark ((face (view n waiting s)).depth + 1)) (stop TooDeep) (ltb (face (view n waiting s)).depth 8) q refl refl refl (ap (λ k. ltb k 8) d) refl
+      by_test (view n waiting s) (view n waiting t) (opened (view n waiting s)) opens _ (ticket s.mark ((face (view n waiting s)).depth + 1)) (refusal TooDeep) (ltb (face (view n waiting s)).depth 8) q refl refl refl (ap (λ k. ltb k 8) d) refl
       (ap (λ o. told_opening (ok_or o TooDeep)) e ∙ open_told q s.mark (face s).depth (face (view n waiting s)).depth (sym d))
       (ap (view n waiting) f ∙ view_if n q (opened s) s)
 
@@ -133,12 +133,12 @@ module _ (n : ℕ) (s t : State PlainRow) where
 -- ---- edits
 
 -- a refused edit changes nothing
-stopped_called : (s : State Waiting) (e : Edit) (a : Answer) (fault : BookFault) → a ≡ stop fault → stop fault ≡ says s (edits e) → Called s (edits e) a s
+stopped_called : (s : State Waiting) (e : Edit) (a : Answer) (fault : BookFault) → a ≡ refusal fault → refusal fault ≡ says s (edits e) → Called s (edits e) a s
 stopped_called s e a fault h p =
     called s (edits e) a s (h ∙ p) (ap (λ k. cond (accepted k) (changed s (edits e)) s) p)
 
 -- an edit that passes its own checks is stopped by a full trail alone
-edit_called : (s t : State Waiting) (e : Edit) (w : Waiting) (a : Answer) → w ≡ next_row s.rows e → says s (edits e) ≡ cond (full s.room (face s)) (stop TrailFull) done → a ≡ cond (full s.room (face s)) (stop TrailFull) done → t ≡ cond (full s.room (face s)) s (written s (job_of e) w) → Called s (edits e) a t
+edit_called : (s t : State Waiting) (e : Edit) (w : Waiting) (a : Answer) → w ≡ next_row s.rows e → says s (edits e) ≡ cond (full s.room (face s)) (refusal TrailFull) done → a ≡ cond (full s.room (face s)) (refusal TrailFull) done → t ≡ cond (full s.room (face s)) s (written s (job_of e) w) → Called s (edits e) a t
 edit_called s t e w a is p f g =
     called s (edits e) a t (f ∙ sym p)
     (g
@@ -146,7 +146,7 @@ edit_called s t e w a is p f g =
     ∙ go (full s.room (face s))
     ∙ ap (λ k. cond (accepted k) (changed s (edits e)) s) (sym p))
   where
-    go : (b : Bool) → cond b s (changed s (edits e)) ≡ cond (accepted (cond b (stop TrailFull) done)) (changed s (edits e)) s
+    go : (b : Bool) → cond b s (changed s (edits e)) ≡ cond (accepted (cond b (refusal TrailFull) done)) (changed s (edits e)) s
     go true = refl
     go false = refl
 
@@ -163,9 +163,9 @@ module _ (n : ℕ) (s : State PlainRow) (l : Lawful n s) (job : ℕ) (row : Row)
   write_seen = view_written n waiting s job p (wide n s l) below ∙ ap (λ w. written (view n waiting s) job (waiting w)) h.value
 
 -- a fault that is carried on
-pub carried_fault : (r : Result (Unit {0}) BookFault) (e : BookFault) → IsErrAnd r (λ y. y ≡ e) → told r ≡ stop e
+pub carried_fault : (r : Result (Unit {0}) BookFault) (e : BookFault) → IsErrAnd r (λ y. y ≡ e) → told r ≡ refusal e
 carried_fault (Ok u) e h = absurd h
-carried_fault (Err f) e h = ap stop h
+carried_fault (Err f) e h = ap refusal h
 
 -- a row that is there to be written
 pub row_there : (w : Option Row) (row : Row) (e : BookFault) → Ok row ≡ ok_or w e → Some (waiting_of row) ≡ seen_some w
@@ -190,9 +190,9 @@ grant_some u w v e = go (among u w.targets) e
 -- the answer where a row is not made, or else the rest of the checks
 abbrev stop_of : Result Waiting RowFault → Answer → Answer
 stop_of (Ok w) rest = rest
-stop_of (Err e) rest = stop (of_row e)
+stop_of (Err e) rest = refusal (of_row e)
 
-made_told : (q : Bool) (p : Option ℕ) (w : Waiting) (rest : Answer) → cond q (stop WrongCounts) (stop_at p rest) ≡ stop_of (cond q (Err RowCounts) (placed p w)) rest
+made_told : (q : Bool) (p : Option ℕ) (w : Waiting) (rest : Answer) → cond q (refusal WrongCounts) (refused_at p rest) ≡ stop_of (cond q (Err RowCounts) (placed p w)) rest
 made_told true p w rest = refl
 made_told false None w rest = refl
 made_told false (Some place) w rest = refl
@@ -203,22 +203,22 @@ placed_is false None w v e = cc
 placed_is false (Some place) w v e = absurd (cc e)
 
 module _ (s : State Waiting) (n : ℕ) (jobs : n ≡ length s.rows) where
-  refused : (e : Edit) (fault : BookFault) → stop fault ≡ says s (edits e) → Called s (edits e) (stop fault) s
-  refused e fault p = stopped_called s e (stop fault) fault refl p
+  refused : (e : Edit) (fault : BookFault) → refusal fault ≡ says s (edits e) → Called s (edits e) (refusal fault) s
+  refused e fault p = stopped_called s e (refusal fault) fault refl p
 
   module _ (job need : ℕ) (targets : List ℕ) where
-    pub no_job : n ≤ job → Called s (edits (requests job need targets)) (stop NoSuchJob) s
+    pub no_job : n ≤ job → Called s (edits (requests job need targets)) (refusal NoSuchJob) s
     no_job l =
         let q : leb (length s.rows) job ≡ true = le-leb _ _ (omega (arith, jobs)) in
         refused (requests job need targets) NoSuchJob (rw q)
 
-    pub is_blocked : job < n → 0 < (at s.rows job).need → Called s (edits (requests job need targets)) (stop Blocked) s
+    pub is_blocked : job < n → 0 < (at s.rows job).need → Called s (edits (requests job need targets)) (refusal Blocked) s
     is_blocked l b =
         let q : leb (length s.rows) job ≡ false = lt-leb _ _ (omega (arith, jobs)) in
         let r : ltb 0 (at s.rows job).need ≡ true = lt-ltb _ _ b in
         refused (requests job need targets) Blocked (rw (q, r))
 
-    request_says : job < n → (at s.rows job).need ≤ 0 → says s (edits (requests job need targets)) ≡ stop_of (requested n job need targets) (cond (full s.room (face s)) (stop TrailFull) done)
+    request_says : job < n → (at s.rows job).need ≤ 0 → says s (edits (requests job need targets)) ≡ stop_of (requested n job need targets) (cond (full s.room (face s)) (refusal TrailFull) done)
     request_says l b =
         let q : leb (length s.rows) job ≡ false = lt-leb _ _ (omega (arith, jobs)) in
         let r : ltb 0 (at s.rows job).need ≡ false = le-ltb _ _ b in
@@ -227,17 +227,17 @@ module _ (s : State Waiting) (n : ℕ) (jobs : n ≡ length s.rows) where
     pub no_row : job < n → (at s.rows job).need ≤ 0 → (e : RowFault) (r : Result (Unit {0}) BookFault) → Err e ≡ requested n job need targets → IsErrAnd r (λ y. y ≡ of_row e) → Called s (edits (requests job need targets)) (told r) s
     no_row l b e r f h =
         stopped_called s (requests job need targets) (told r) (of_row e) (carried_fault r (of_row e) h)
-        (sym (request_says l b ∙ ap (λ k. stop_of k (cond (full s.room (face s)) (stop TrailFull) done)) (sym f)))
+        (sym (request_says l b ∙ ap (λ k. stop_of k (cond (full s.room (face s)) (refusal TrailFull) done)) (sym f)))
 
-    pub request_called : job < n → (at s.rows job).need ≤ 0 → (w : Waiting) (a : Answer) (t : State Waiting) → Ok w ≡ requested n job need targets → a ≡ cond (full s.room (face s)) (stop TrailFull) done → t ≡ cond (full s.room (face s)) s (written s job w) → Called s (edits (requests job need targets)) a t
+    pub request_called : job < n → (at s.rows job).need ≤ 0 → (w : Waiting) (a : Answer) (t : State Waiting) → Ok w ≡ requested n job need targets → a ≡ cond (full s.room (face s)) (refusal TrailFull) done → t ≡ cond (full s.room (face s)) s (written s job w) → Called s (edits (requests job need targets)) a t
     request_called l b w a t f g h =
         edit_called s t (requests job need targets) w a
         (sym (placed_is (wrong_counts need (length targets)) (first_wrong n job 0 0 targets) (record { need = need; targets = targets }) w (sym f)))
-        (request_says l b ∙ ap (λ k. stop_of k (cond (full s.room (face s)) (stop TrailFull) done)) (sym f))
+        (request_says l b ∙ ap (λ k. stop_of k (cond (full s.room (face s)) (refusal TrailFull) done)) (sym f))
         g h
 
   module _ (granter waiter : ℕ) where
-    pub no_jobs : (n ≤ granter) ⊎ ((granter < n) × (n ≤ waiter)) → Called s (edits (grants granter waiter)) (stop NoSuchJob) s
+    pub no_jobs : (n ≤ granter) ⊎ ((granter < n) × (n ≤ waiter)) → Called s (edits (grants granter waiter)) (refusal NoSuchJob) s
     no_jobs past =
         let k = jobs in
         let q : (leb (length s.rows) granter || leb (length s.rows) waiter) ≡ true = grind (arith, nat_tests) in
@@ -246,12 +246,12 @@ module _ (s : State Waiting) (n : ℕ) (jobs : n ≡ length s.rows) where
     both : granter < n → waiter < n → (leb (length s.rows) granter || leb (length s.rows) waiter) ≡ false
     both l m = let k = jobs in grind (arith, nat_tests)
 
-    pub is_stuck : granter < n → waiter < n → 0 < (at s.rows granter).need → Called s (edits (grants granter waiter)) (stop GranterBlocked) s
+    pub is_stuck : granter < n → waiter < n → 0 < (at s.rows granter).need → Called s (edits (grants granter waiter)) (refusal GranterBlocked) s
     is_stuck l m b =
         let r : ltb 0 (at s.rows granter).need ≡ true = lt-ltb _ _ b in
         refused (grants granter waiter) GranterBlocked (rw (both l m, r))
 
-    grant_says : granter < n → waiter < n → (at s.rows granter).need ≤ 0 → says s (edits (grants granter waiter)) ≡ cond (not (among granter (at s.rows waiter).targets)) (stop NoSuchWait) (cond (full s.room (face s)) (stop TrailFull) done)
+    grant_says : granter < n → waiter < n → (at s.rows granter).need ≤ 0 → says s (edits (grants granter waiter)) ≡ cond (not (among granter (at s.rows waiter).targets)) (refusal NoSuchWait) (cond (full s.room (face s)) (refusal TrailFull) done)
     grant_says l m b =
         let r : ltb 0 (at s.rows granter).need ≡ false = le-ltb _ _ b in
         rw (both l m, r)
@@ -259,15 +259,15 @@ module _ (s : State Waiting) (n : ℕ) (jobs : n ≡ length s.rows) where
     pub no_wait : granter < n → waiter < n → (at s.rows granter).need ≤ 0 → (w : Option Row) (e : BookFault) (r : Result (Unit {0}) BookFault) → seen_some w ≡ granted_by granter (at s.rows waiter) → Err e ≡ ok_or w NoSuchWait → IsErrAnd r (λ y. y ≡ e) → Called s (edits (grants granter waiter)) (told r) s
     no_wait l m b None e r f g h =
         let same : e ≡ NoSuchWait = cc g in
-        stopped_called s (grants granter waiter) (told r) NoSuchWait (carried_fault r e h ∙ ap stop same)
-        (sym (grant_says l m b ∙ ap (λ q. cond (not q) (stop NoSuchWait) (cond (full s.room (face s)) (stop TrailFull) done)) (grant_none granter (at s.rows waiter) f)))
+        stopped_called s (grants granter waiter) (told r) NoSuchWait (carried_fault r e h ∙ ap refusal same)
+        (sym (grant_says l m b ∙ ap (λ q. cond (not q) (refusal NoSuchWait) (cond (full s.room (face s)) (refusal TrailFull) done)) (grant_none granter (at s.rows waiter) f)))
     no_wait l m b (Some w) e r f g h = absurd (cc g)
 
-    pub grant_called : granter < n → waiter < n → (at s.rows granter).need ≤ 0 → (w : Waiting) (a : Answer) (t : State Waiting) → Some w ≡ granted_by granter (at s.rows waiter) → a ≡ cond (full s.room (face s)) (stop TrailFull) done → t ≡ cond (full s.room (face s)) s (written s waiter w) → Called s (edits (grants granter waiter)) a t
+    pub grant_called : granter < n → waiter < n → (at s.rows granter).need ≤ 0 → (w : Waiting) (a : Answer) (t : State Waiting) → Some w ≡ granted_by granter (at s.rows waiter) → a ≡ cond (full s.room (face s)) (refusal TrailFull) done → t ≡ cond (full s.room (face s)) s (written s waiter w) → Called s (edits (grants granter waiter)) a t
     grant_called l m b w a t e g h =
         let some = grant_some granter (at s.rows waiter) w e in
         edit_called s t (grants granter waiter) w a some.1
-        (grant_says l m b ∙ ap (λ q. cond (not q) (stop NoSuchWait) (cond (full s.room (face s)) (stop TrailFull) done)) some.0)
+        (grant_says l m b ∙ ap (λ q. cond (not q) (refusal NoSuchWait) (cond (full s.room (face s)) (refusal TrailFull) done)) some.0)
         g h
 
     pub granted_fits : lawful s.rows ≡ true → waiter < n → (w : Waiting) → Some w ≡ granted_by granter (at s.rows waiter) → row_fits (length s.rows) waiter w ≡ true

@@ -7,16 +7,16 @@ use Rattle.groups.specs.State.{State}
 use Rattle.book.specs.declared.fault.BookFault.{BookFault}
 use Rattle.book.specs.declared.script.fault.ScriptFault.{ScriptFault}
 use Rattle.book.specs.declared.script.tally.Tally.{Tally}
-use Rattle.book.specs.Answers.{done, stop, accepted, says, after}
+use Rattle.book.specs.Answers.{done, refusal, accepted, says, after}
 use Rattle.book.specs.Calls.{Edit, Call, edits, changed}
 use Rattle.book.specs.History.{Called}
 use Rattle.book.specs.Commands.{Command, makes}
-use Rattle.book.specs.Scripts.{Progress, Carries, Stops, edited}
+use Rattle.book.specs.Scripts.{Progress, CarriesOut, Stops, edited}
 use Rattle.book.specs.Subjects.{of_book}
 use Rattle.book.specs.Working.{far, CarriedOut}
 
 -- a refused call leaves the book as it was
-pub refused_leaves : (s s' : State Waiting) (c : Call) (fault : BookFault) → stop fault ≡ says s c → s' ≡ after s c → s' ≡ s
+pub refused_leaves : (s s' : State Waiting) (c : Call) (fault : BookFault) → refusal fault ≡ says s c → s' ≡ after s c → s' ≡ s
 refused_leaves s s' c fault e f = f ∙ ap (λ a. cond (accepted a) (changed s c) s) (sym e)
 
 -- a fault that comes out of a call stops the command
@@ -27,10 +27,10 @@ fault_stops c p q (Err f) fault h stops same = rw h (stops, same)
 
 -- a call of the book that is refused, and one that is not
 module _ (s s' : State Waiting) (records : List RunRecord) (carrier : Carried) (bytes : List ℕ) (t : Tally) where
-  pub refused_far : (c : Call) (fault : BookFault) → Called s c (stop fault) s' → far s' records carrier bytes t ≡ far s records carrier bytes t
+  pub refused_far : (c : Call) (fault : BookFault) → Called s c (refusal fault) s' → far s' records carrier bytes t ≡ far s records carrier bytes t
   refused_far c fault k = ap (λ x. far x records carrier bytes t) (refused_leaves s s' c fault k.value k.after)
 
-  pub edit_carried : (e : Edit) → Called s (edits e) done s' → Carries of_book (far s records carrier bytes t) (makes e) (far s' records carrier bytes t)
+  pub edit_carried : (e : Edit) → Called s (edits e) done s' → CarriesOut of_book (far s records carrier bytes t) (makes e) (far s' records carrier bytes t)
   edit_carried e k = rw k.after (edited (sym k.value))
 
 -- what stands behind four bytes that are written

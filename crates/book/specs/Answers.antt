@@ -2,8 +2,7 @@
 use Rattle.std.specs.Prelude.{ℕ, ◌+◌, Bool, true, false, cond, not, ◌||◌, length, Some, None, Option, nat_le, nat_lt}
 use Rattle.rows.specs.Waiting.{Waiting, at, among}
 use Rattle.rows.specs.Changes.{wrong_counts, first_wrong}
-use Rattle.groups.specs.State.{State, Face, face, full, innermost}
-use Rattle.groups.specs.Limits.{depth_max}
+use Rattle.groups.specs.State.{State, Face, face, full, can_open, innermost}
 use Rattle.book.specs.declared.fault.BookFault.{BookFault}
 use Rattle.book.specs.declared.fault.BookFault.TheVariants.{NoSuchJob, Blocked, WrongCounts, WrongTarget, TrailFull, GranterBlocked, NoSuchWait, TooDeep, NotInnermost}
 use Rattle.book.specs.Faults.{number, value}
@@ -16,9 +15,11 @@ pub data Answer : Type 0 where
   stopped : (number : ℕ) (value : Option ℕ) → Answer
   returned : (number mark depth : ℕ) → Answer
 
-abbrev pub stop : BookFault → Answer
-stop fault = stopped (number fault) (value fault)
+-- A refusal, by its number and value.
+abbrev pub refusal : BookFault → Answer
+refusal fault = stopped (number fault) (value fault)
 
+-- A call is accepted where it is done or gives a ticket.
 abbrev pub accepted : Answer → Bool
 accepted done = true
 accepted (ticket mark depth) = true
@@ -26,31 +27,34 @@ accepted (stopped number value) = false
 accepted (returned number mark depth) = false
 
 -- The first wrong target stops a request.
-abbrev pub stop_at : Option ℕ → Answer → Answer
-stop_at None answer = answer
-stop_at (Some place) answer = stop (WrongTarget place)
+abbrev pub refused_at : Option ℕ → Answer → Answer
+refused_at None answer = answer
+refused_at (Some place) answer = refusal (WrongTarget place)
 
+-- The checks of a request: 1, 2, 3, 4, 5; and those of a grant: 1, 6, 7, 5.
 abbrev pub edit_answer : (room : ℕ) → Face Waiting → Edit → Answer
 edit_answer room f (requests job need targets) =
-    cond (nat_le (length f.rows) job) (stop NoSuchJob)
-    (cond (nat_lt 0 (at f.rows job).need) (stop Blocked)
-    (cond (wrong_counts need (length targets)) (stop WrongCounts)
-    (stop_at (first_wrong (length f.rows) job 0 0 targets)
-    (cond (full room f) (stop TrailFull)
+    cond (nat_le (length f.rows) job) (refusal NoSuchJob)
+    (cond (nat_lt 0 (at f.rows job).need) (refusal Blocked)
+    (cond (wrong_counts need (length targets)) (refusal WrongCounts)
+    (refused_at (first_wrong (length f.rows) job 0 0 targets)
+    (cond (full room f) (refusal TrailFull)
     done))))
 edit_answer room f (grants granter waiter) =
-    cond (nat_le (length f.rows) granter || nat_le (length f.rows) waiter) (stop NoSuchJob)
-    (cond (nat_lt 0 (at f.rows granter).need) (stop GranterBlocked)
-    (cond (not (among granter (at f.rows waiter).targets)) (stop NoSuchWait)
-    (cond (full room f) (stop TrailFull)
+    cond (nat_le (length f.rows) granter || nat_le (length f.rows) waiter) (refusal NoSuchJob)
+    (cond (nat_lt 0 (at f.rows granter).need) (refusal GranterBlocked)
+    (cond (not (among granter (at f.rows waiter).targets)) (refusal NoSuchWait)
+    (cond (full room f) (refusal TrailFull)
     done)))
 
+-- The check of an ending: 9, with its ticket.
 abbrev pub ending_answer : (m : ℕ) → Face Waiting → (mark depth : ℕ) → Answer
 ending_answer m f mark depth = cond (innermost m f mark depth) done (returned (number NotInnermost) mark depth)
 
+-- The answer to each call; the check of an opening: 8.
 abbrev pub answer : (mark room : ℕ) → Face Waiting → Call → Answer
 answer m room f (edits e) = edit_answer room f e
-answer m room f opens = cond (nat_lt f.depth depth_max) (ticket m (f.depth + 1)) (stop TooDeep)
+answer m room f opens = cond (can_open f) (ticket m (f.depth + 1)) (refusal TooDeep)
 answer m room f (keeps mark depth) = ending_answer m f mark depth
 answer m room f (cancels mark depth) = ending_answer m f mark depth
 

@@ -18,7 +18,8 @@ number NoSuchWait = 7
 number TooDeep = 8
 number NotInnermost = 9
 
--- A wrong target is told by its place, counted from 0.
+-- The value, where it is a number: the place of the first wrong target, counted from 0. The ticket of refusal 9 comes back beside the
+-- fault.
 abbrev pub value : BookFault → Option ℕ
 value NoSuchJob = None
 value Blocked = None

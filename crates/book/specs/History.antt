@@ -22,15 +22,15 @@ abbrev pub answers : Terms → History Edit → Call → Answer
 answers t h c = answer t.mark t.room (face_of t h) c
 
 -- What an accepted call does to the lists.
-abbrev pub counted : History Edit → Call → History Edit
-counted h (edits e) = join h e
-counted h opens = nest h
-counted h (keeps mark depth) = merge h
-counted h (cancels mark depth) = forget h
+abbrev pub listed : History Edit → Call → History Edit
+listed h (edits e) = join h e
+listed h opens = nest h
+listed h (keeps mark depth) = merge h
+listed h (cancels mark depth) = forget h
 
 -- A history fed a call; a refused call changes no list.
 abbrev pub fed : Terms → History Edit → Call → History Edit
-fed t h c = cond (accepted (answers t h c)) (counted h c) h
+fed t h c = cond (accepted (answers t h c)) (listed h c) h
 
 abbrev pub terms : State Waiting → Terms
 terms s = record { jobs = length s.rows; mark = s.mark; room = s.room }

@@ -7,3 +7,6 @@ pub record Lent : Type 0 where
   pub records : List RunRecord
   pub carrier : Carried
   pub bytes : List ℕ
+
+abbrev pub lent : List RunRecord → Carried → (bytes : List ℕ) → Lent
+lent records carrier bytes = record { records = records; carrier = carrier; bytes = bytes }

@@ -3,6 +3,7 @@ pub mod Faults
 pub mod Calls
 pub mod Answers
 pub mod History
+pub mod Creation
 pub mod Views
 pub mod Memory
 pub mod Subjects

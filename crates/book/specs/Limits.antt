@@ -1,7 +1,10 @@
--- The limit of a book.
-use Rattle.std.specs.Prelude.{ℕ, cond, nat_le}
-use Rattle.tables.specs.Tables.{jobs_max}
+-- The limits of scripts.
+use Rattle.std.specs.Prelude.{ℕ}
 
--- How many jobs a book is created with: none where more are asked for than a table can have.
-abbrev pub created : ℕ → ℕ
-created jobs = cond (nat_le jobs jobs_max) jobs 0
+-- How many bytes a script has at most.
+abbrev pub script_max : ℕ
+script_max = 8192
+
+-- How many bytes a detection of a script writes.
+abbrev pub detection_bytes : ℕ
+detection_bytes = 4

@@ -11,7 +11,7 @@ use Rattle.detection.specs.declared.fault.DetectionFault.{DetectionFault}
 use Rattle.detection.specs.declared.verdict.Detection.{Detection}
 use Rattle.book.specs.Calls.{Edit, edits, opens, ends}
 use Rattle.book.specs.Events.{Event, made, detected, scripted, Life}
-use Rattle.book.specs.Law.{new_book, new_terms}
+use Rattle.book.specs.Creation.{new_book, new_terms}
 use Rattle.book.specs.Lent.{Lent}
 use Rattle.book.specs.ScriptRuns.{script_written}
 use Rattle.book.specs.Snapshots.{snapshot_view}
@@ -44,13 +44,13 @@ written_by (Edited r) = 0
 written_by (Ran r) = script_written r
 
 -- A call with its answer is an event; `before` is what is lent to it, and `after` what is left.
-pub data Happens : (before : Lent) → Call → Answer → Event → (after : Lent) → Type 0 where
-  opening : {l : Lent} {r : Result Stub BookFault} → Happens l Open (Opened r) (made opens (told_stub r)) l
-  ending : {l : Lent} {e : Ending} {k : Stub} {r : Result (Unit {0}) RefusedStub} → Happens l (End e k) (Ended r) (made (ends e k.mark k.depth) (told_ending_by r)) l
+pub data IsEvent : (before : Lent) → Call → Answer → Event → (after : Lent) → Type 0 where
+  opening : {l : Lent} {r : Result Stub BookFault} → IsEvent l Open (Opened r) (made opens (told_stub r)) l
+  ending : {l : Lent} {e : Ending} {k : Stub} {r : Result (Unit {0}) RefusedStub} → IsEvent l (End e k) (Ended r) (made (ends e k.mark k.depth) (told_ending_by r)) l
   detecting : {l : Lent} {job : ℕ} {r : Result Detection DetectionFault} {is : List RunRecord} {after : Carried}
-      → Happens l (Detect job) (Detected r) (detected job l.records l.carrier r is after) (record { records = is; carrier = after; bytes = l.bytes })
-  editing : {l : Lent} {e : _} {r : Result (Unit {0}) BookFault} → Happens l (Make e) (Edited r) (made (edits (edit_of e)) (told r)) l
-  running : {l m : Lent} {script : _} {r : Result FinishedScript StoppedScript} → Happens l (Run script) (Ran r) (scripted script.now l r m) m
+      → IsEvent l (Detect job) (Detected r) (detected job l.records l.carrier r is after) (record { records = is; carrier = after; bytes = l.bytes })
+  editing : {l : Lent} {e : _} {r : Result (Unit {0}) BookFault} → IsEvent l (Make e) (Edited r) (made (edits (edit_of e)) (told r)) l
+  running : {l m : Lent} {script : _} {r : Result FinishedScript StoppedScript} → IsEvent l (Run script) (Ran r) (scripted script.now l r m) m
 
 -- The answer bytes that a call has written are not lent again.
 abbrev pub unwritten : Answer → Lent → Lent
@@ -58,11 +58,11 @@ unwritten a l = record { records = l.records; carrier = l.carrier; bytes = drop 
 
 -- The calls of a life, one after the other, with what is lent to each: what the one before has left. All the bytes written come one
 -- behind the other.
-pub data Happened (first : Lent) : List Call → List Answer → List Event → (bytes : List ℕ) → Lent → Type 0 where
-  nothing : Happened first [] [] [] [] first
+pub data AreEvents (first : Lent) : List Call → List Answer → List Event → (bytes : List ℕ) → Lent → Type 0 where
+  nothing : AreEvents first [] [] [] [] first
   then : {ks : List Call} {rs : List Answer} {es : List Event} {bytes : List ℕ} {l m : Lent} {k : Call} {a : Answer} {e : Event}
-      → Happened first ks rs es bytes l → Happens l k a e m
-      → Happened first (ks ++ k ∷ []) (rs ++ a ∷ []) (es ++ e ∷ []) (bytes ++ take (written_by a) m.bytes) (unwritten a m)
+      → AreEvents first ks rs es bytes l → IsEvent l k a e m
+      → AreEvents first (ks ++ k ∷ []) (rs ++ a ∷ []) (es ++ e ∷ []) (bytes ++ take (written_by a) m.bytes) (unwritten a m)
 
 -- A whole life was lived: the calls happened, with the answers given back; all this happened to a book, from its creation on, and to the
 -- history that was told the same at creation, both by the rules; and what is given back as seen was seen of them, at creation and after
@@ -71,11 +71,12 @@ pub record Lived (jobs mark memory : ℕ) (calls : List Call) (first : Snapshot)
   pub events : List Event
   pub bytes : List ℕ
   pub left : Lent
-  pub happened : Happened before calls (map answer_at moments) events bytes left
+  pub happened : AreEvents before calls (map answer_at moments) events bytes left
   pub book : State Waiting
   pub lived : Life of_book (new_book jobs mark memory) events (map seen_at moments) book
   pub history : History Edit
   pub follows : Life (of_history (new_terms jobs mark memory)) begun events (map seen_at moments) history
+  -- of the book the same is seen, by the law of lives
   pub created : snapshot_view first ≡ view_of (of_history (new_terms jobs mark memory)) begun
   -- what is left of the lent memory: the bytes written stand before those that were not
   pub lent : after ≡ record { records = left.records; carrier = left.carrier; bytes = bytes ++ left.bytes }

@@ -29,7 +29,8 @@ BytesRead script from to count bs = (bs ≡ take count (drop from script)) × (t
 abbrev pub Fewer : (script : List ℕ) (from count : ℕ) → ScriptFault → Type 0
 Fewer script from count fault = (fault ≡ CutOff) × (length (drop from script) < count)
 
--- The bytes unread begin with the command; or they begin with none. So many bytes of it were read before.
+-- The bytes unread begin with the command; or they begin with none. What stands at their head is told by `at`, and so many bytes of the
+-- command, its letter, were read before.
 abbrev pub CommandRead : (List ℕ → Head) → (before : ℕ) (script : List ℕ) (from to : ℕ) → Result Told ScriptFault → Type 0
 CommandRead at before script from to r =
     MatchResult r

@@ -13,12 +13,9 @@ use Rattle.book.specs.Subjects.{of_book, of_history}
 use Rattle.book.specs.declared.script.fault.StoppedScript.{StoppedScript}
 use Rattle.book.specs.declared.script.fault.FinishedScript.{FinishedScript}
 
-abbrev pub lent : List RunRecord → Carried → (bytes : List ℕ) → Lent
-lent records carrier bytes = record { records = records; carrier = carrier; bytes = bytes }
-
 -- The book does as the rules of scripts say; and whatever history it shows before, that history does the same by the same rules, and is
 -- the one that the book shows after.
-pub record Ran (s : State Waiting) (l : Lent) (script : List ℕ) (answer : Result FinishedScript StoppedScript) (s' : State Waiting) (l' : Lent) : Type 0 where
+pub record RanScript (s : State Waiting) (l : Lent) (script : List ℕ) (answer : Result FinishedScript StoppedScript) (s' : State Waiting) (l' : Lent) : Type 0 where
   pub does : Scripted of_book s l script answer s' l'
   pub shows : (h : History Edit) → Shows s h → (h' : History Edit) × Scripted (of_history (terms s)) h l script answer h' l' × Shows s' h'
 

@@ -7,23 +7,17 @@ use Rattle.detection.specs.declared.verdict.Detection.{Detection}
 use Rattle.detection.specs.declared.verdict.Verdict.{Verdict}
 use Rattle.detection.specs.declared.verdict.Verdict.TheVariants.{Stuck, Free}
 use Rattle.groups.specs.declared.store.Ending.{Ending}
-use Rattle.book.specs.Answers.{done, ticket, stop}
+use Rattle.book.specs.Answers.{done, ticket, refusal}
 use Rattle.book.specs.Calls.{Edit, Call, edits, opens, cancels, ends}
 use Rattle.book.specs.Commands.{Command, makes, opening, ending, detecting, Head, over, unknown, cut, whole, head}
 use Rattle.book.specs.Lent.{Lent}
+use Rattle.book.specs.Limits.{script_max, detection_bytes}
 use Rattle.book.specs.Subjects.{Subject}
 use Rattle.book.specs.declared.script.fault.ScriptFault.{ScriptFault}
 use Rattle.book.specs.declared.script.fault.ScriptFault.TheVariants.{TooLong, UnknownLetter, CutOff, NoScriptGroup, NoAnswerSpace, OfBook, OfDetection}
 use Rattle.book.specs.declared.script.fault.StoppedScript.{StoppedScript}
 use Rattle.book.specs.declared.script.fault.FinishedScript.{FinishedScript}
 use Rattle.book.specs.declared.script.tally.Position.{Position}
-
--- How many bytes a script has at most, and how many a detection writes.
-abbrev pub script_max : ℕ
-script_max = 8192
-
-abbrev pub detection_bytes : ℕ
-detection_bytes = 4
 
 -- How far a script has come: the subject, what is lent, how many bytes it has written and how many groups it has open.
 pub record Progress (X : Type 0) : Type 0 where
@@ -32,11 +26,12 @@ pub record Progress (X : Type 0) : Type 0 where
   pub written : ℕ
   pub groups : ℕ
 
--- The four bytes of a detection: the job, 1 if it is stuck and else 0, and the deliveries as 16 bits, the high byte first.
+-- The byte of a verdict.
 abbrev pub verdict_byte : Verdict → ℕ
 verdict_byte Stuck = 1
 verdict_byte Free = 0
 
+-- The four bytes of a detection: the job, 1 if it is stuck and else 0, and the deliveries as 16 bits, the high byte first.
 abbrev pub answer_bytes : (job : ℕ) → Detection → List ℕ
 answer_bytes job d = job ∷ verdict_byte d.verdict ∷ d.deliveries / 256 ∷ d.deliveries % 256 ∷ []
 
@@ -53,16 +48,16 @@ unreadable (whole c n) = None
 
 module _ {X : Type 0} (S : Subject X) where
   -- How far a script is after a call, with so many groups of its own open.
-  abbrev pub called : Progress X → Call → (groups : ℕ) → Progress X
-  called p c groups = record { subject = S.after p.subject c; lent = p.lent; written = p.written; groups = groups }
+  abbrev pub after_call : Progress X → Call → (groups : ℕ) → Progress X
+  after_call p c groups = record { subject = S.after p.subject c; lent = p.lent; written = p.written; groups = groups }
 
   -- The ending of the innermost group, as its ticket would.
   abbrev pub ends_innermost : X → Ending → Call
   ends_innermost x e = ends e (S.mark x) (S.depth x)
 
   -- How far it is after an accepted detection.
-  abbrev pub detected : Progress X → (job : ℕ) → Detection → (is : List RunRecord) (after : Carried) → Progress X
-  detected p job d is after = record {
+  abbrev pub after_detection : Progress X → (job : ℕ) → Detection → (is : List RunRecord) (after : Carried) → Progress X
+  after_detection p job d is after = record {
     subject = p.subject;
     lent = record { records = is; carrier = after; bytes = with_answer p.lent.bytes p.written (answer_bytes job d) };
     written = p.written + detection_bytes;
@@ -70,18 +65,18 @@ module _ {X : Type 0} (S : Subject X) where
   }
 
   -- A command is carried out.
-  pub data Carries : Progress X → Command → Progress X → Type 0 where
-    edited : {p : Progress X} {e : Edit} → S.says p.subject (edits e) ≡ done → Carries p (makes e) (called p (edits e) p.groups)
-    opened : {p : Progress X} {mark depth : ℕ} → S.says p.subject opens ≡ ticket mark depth → Carries p opening (called p opens (p.groups + 1))
+  pub data CarriesOut : Progress X → Command → Progress X → Type 0 where
+    edited : {p : Progress X} {e : Edit} → S.says p.subject (edits e) ≡ done → CarriesOut p (makes e) (after_call p (edits e) p.groups)
+    opened : {p : Progress X} {mark depth : ℕ} → S.says p.subject opens ≡ ticket mark depth → CarriesOut p opening (after_call p opens (p.groups + 1))
     ended : {p : Progress X} {e : Ending} → 0 < p.groups → S.says p.subject (ends_innermost p.subject e) ≡ done
-        → Carries p (ending e) (called p (ends_innermost p.subject e) (p.groups - 1))
+        → CarriesOut p (ending e) (after_call p (ends_innermost p.subject e) (p.groups - 1))
     answered : {p : Progress X} {job : ℕ} {d : Detection} {is : List RunRecord} {after : Carried} → p.written + detection_bytes ≤ length p.lent.bytes
-        → Detects (S.rows p.subject) job p.lent.records is p.lent.carrier after (Ok d) → Carries p (detecting job) (detected p job d is after)
+        → Detects (S.rows p.subject) job p.lent.records is p.lent.carrier after (Ok d) → CarriesOut p (detecting job) (after_detection p job d is after)
 
   -- A fault stops a command: the script's own checks come first, then those of the call.
   pub data Stops : Progress X → Command → ScriptFault → Type 0 where
-    not_edited : {p : Progress X} {e : Edit} {fault : _} → S.says p.subject (edits e) ≡ stop fault → Stops p (makes e) (OfBook fault)
-    not_opened : {p : Progress X} {fault : _} → S.says p.subject opens ≡ stop fault → Stops p opening (OfBook fault)
+    not_edited : {p : Progress X} {e : Edit} {fault : _} → S.says p.subject (edits e) ≡ refusal fault → Stops p (makes e) (OfBook fault)
+    not_opened : {p : Progress X} {fault : _} → S.says p.subject opens ≡ refusal fault → Stops p opening (OfBook fault)
     no_group : {p : Progress X} {e : Ending} → p.groups ≡ 0 → Stops p (ending e) NoScriptGroup
     no_space : {p : Progress X} {job : ℕ} → length p.lent.bytes < p.written + detection_bytes → Stops p (detecting job) NoAnswerSpace
     not_detected : {p : Progress X} {job : ℕ} {fault : _} → p.written + detection_bytes ≤ length p.lent.bytes
@@ -89,7 +84,7 @@ module _ {X : Type 0} (S : Subject X) where
 
   -- The command at the head of the bytes unread: it is carried out, and so many bytes are read; or there is a fault, and nothing changes.
   pub data Steps : (unread : List ℕ) → Progress X → Option ScriptFault → Progress X → (bytes : ℕ) → Type 0 where
-    carries : {unread : List ℕ} {p q : Progress X} {c : Command} {n : ℕ} → head unread ≡ whole c n → Carries p c q → Steps unread p None q n
+    carries : {unread : List ℕ} {p q : Progress X} {c : Command} {n : ℕ} → head unread ≡ whole c n → CarriesOut p c q → Steps unread p None q n
     stops : {unread : List ℕ} {p : Progress X} {c : Command} {n : ℕ} {fault : ScriptFault} → head unread ≡ whole c n → Stops p c fault → Steps unread p (Some fault) p 0
     strange : {unread : List ℕ} {p : Progress X} {fault : ScriptFault} → unreadable (head unread) ≡ Some fault → Steps unread p (Some fault) p 0
 
@@ -109,6 +104,7 @@ module _ {X : Type 0} (S : Subject X) where
   cancel_groups zero x = x
   cancel_groups (suc groups) x = cancel_groups groups (S.after x (cancels (S.mark x) (S.depth x)))
 
+  -- At first nothing is written, and the script has no group open.
   abbrev pub start : X → Lent → Progress X
   start x lent = record { subject = x; lent = lent; written = 0; groups = 0 }
 
@@ -133,5 +129,6 @@ module _ {X : Type 0} (S : Subject X) where
     pub leaves : x' ≡ x
     pub lends : lent' ≡ lent
 
+  -- More than 8,192 bytes are refused; any other script is worked.
   abbrev pub Scripted : X → Lent → List ℕ → Result FinishedScript StoppedScript → X → Lent → Type 0
   Scripted x lent script answer x' lent' = MatchBool (nat_lt script_max (length script)) (Refused x lent answer x' lent') (Worked x lent script answer x' lent')

@@ -9,15 +9,15 @@ use Rattle.book.specs.declared.fault.RefusedEnding.{RefusedEnding}
 use Rattle.book.specs.declared.fault.RefusedStub.{RefusedStub}
 use Rattle.book.specs.Faults.{number}
 use Rattle.book.specs.Calls.{requests, grants, Edit as EditCall}
-use Rattle.book.specs.Answers.{Answer, done, ticket, returned, stop}
+use Rattle.book.specs.Answers.{Answer, done, ticket, returned, refusal}
 
 abbrev pub told : Result (Unit {0}) BookFault → Answer
 told (Ok u) = done
-told (Err fault) = stop fault
+told (Err fault) = refusal fault
 
 abbrev pub told_opening : Result Ticket BookFault → Answer
 told_opening (Ok t) = ticket t.mark t.depth
-told_opening (Err fault) = stop fault
+told_opening (Err fault) = refusal fault
 
 abbrev pub told_ending : Result (Unit {0}) RefusedEnding → Answer
 told_ending (Ok u) = done
@@ -26,7 +26,7 @@ told_ending (Err e) = returned (number e.fault) e.returned.ticket.mark e.returne
 -- The same of an opening that gives no ticket, but tells what it would tell; and of an ending that is made with such a stub.
 abbrev pub told_stub : Result Stub BookFault → Answer
 told_stub (Ok s) = ticket s.mark s.depth
-told_stub (Err fault) = stop fault
+told_stub (Err fault) = refusal fault
 
 abbrev pub told_ending_by : Result (Unit {0}) RefusedStub → Answer
 told_ending_by (Ok u) = done

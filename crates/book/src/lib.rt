@@ -16,4 +16,4 @@ pub use rows::{PlainRow, TARGETS_MAX};
 pub use script::{FinishedScript, SCRIPT_MAX, ScriptFault, StoppedScript};
 pub use snapshot::Snapshot;
 pub use store::Book;
-pub use tables::{JOBS_MAX, Table, TwoWayTable};
+pub use tables::{JOBS_MAX, Table, TwoWayTable, WAITS_MAX};

@@ -1,5 +1,5 @@
 -- What the contracts speak of.
 pub mod Faults
 pub mod Meaning
-pub mod Orders
+pub mod Parts
 pub mod Picks

@@ -14,7 +14,7 @@ pub record Carried : Type 0 where
 
 -- A put of a message, and whether it was accepted.
 pub record Put (before after : Carried) (message : Message) (accepted : Bool) : Type 0 where
-  -- it is refused exactly when as many wait as the capacity; more never wait
+  -- it is refused exactly when the number of those that wait has reached the capacity
   pub test : accepted ≡ nat_lt (length before.waiting) before.capacity
   -- accepted, the message waits beside those that waited, in any order; refused, all is as before
   pub waiting : MatchBool accepted (IsPermutation (message ∷ before.waiting) after.waiting) (after ≡ before)

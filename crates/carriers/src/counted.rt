@@ -3,7 +3,7 @@ ghost use Rattle.std.specs.Prelude.{◌≡◌, length, is_ok, if◌then◌else�
 ghost use Rattle.containers.specs.Held.{with_last};
 ghost use Rattle.containers.specs.Taken.{Popped};
 ghost use Rattle.carriers.specs.Meaning.{Put, Took};
-ghost use Rattle.carriers.specs.Orders.{counted, carried_by, held_carried, container, picker_messages, picks_left, new_carrier};
+ghost use Rattle.carriers.specs.Parts.{carried_from, carried_by, held_carried, container, picker_messages, picks_left, new_carrier};
 
 use crate::carrier::{Carrier, CarrierFull};
 use crate::message::Message;
@@ -30,7 +30,7 @@ impl<C: Container<Message>> Counted<C> {
     // The carrier in which the container's messages wait; it has handed out none.
     pub fn over(messages: C) -> Counted<C>
         ensures messages { container result ≡ messages }
-        ensures carried { carried_by C.Container.held result ≡ counted (C.Container.held messages) 0 }
+        ensures carried { carried_by C.Container.held result ≡ carried_from (C.Container.held messages) 0 }
     {
         Counted {
             messages,

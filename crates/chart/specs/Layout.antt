@@ -1,7 +1,9 @@
 -- How rows lie in bytes.
-use Rattle.std.specs.Prelude.{ℕ, zero, suc, List, [], ◌∷◌, take, drop, slice_index}
+use Rattle.std.specs.Prelude.{ℕ, ◌*◌, ◌/◌, List, length, drop, slice_index}
+use Rattle.std.specs.Simd.{first_chunks}
 use Rattle.rows.specs.Waiting.{Waiting}
 use Rattle.rows.specs.Law.{stored}
+use Rattle.tables.specs.Tables.{jobs_max}
 
 -- How many bytes a job has: its need, its number of targets, and sixteen target bytes.
 abbrev pub row_bytes : ℕ
@@ -9,7 +11,7 @@ row_bytes = 18
 
 -- How many bytes a chart has at most: those of 256 jobs.
 abbrev pub chart_max : ℕ
-chart_max = 4608
+chart_max = jobs_max * row_bytes
 
 -- The parts of a job's bytes.
 abbrev pub need_byte : List ℕ → ℕ
@@ -25,7 +27,9 @@ target_bytes bytes = drop 2 bytes
 abbrev pub row_of : List ℕ → Waiting
 row_of bytes = stored (need_byte bytes) (count_byte bytes) (target_bytes bytes)
 
--- The rows of the first n jobs.
-abbrev pub rows_in : (n : ℕ) → List ℕ → List Waiting
-rows_in zero bytes = []
-rows_in (suc n) bytes = row_of (take row_bytes bytes) ∷ rows_in n (drop row_bytes bytes)
+-- The bytes of each job, of as many jobs as there are whole rows.
+abbrev pub job_count : List ℕ → ℕ
+job_count bytes = length bytes / row_bytes
+
+abbrev pub bytes_of_jobs : List ℕ → List (List ℕ)
+bytes_of_jobs bytes = first_chunks row_bytes (job_count bytes) bytes

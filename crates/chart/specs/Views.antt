@@ -10,6 +10,6 @@ abbrev pub rows_of : Chart → List Waiting
 rows_of c = map row_of c.rows.now
 
 -- How many rows there are, or why there are none.
-abbrev pub counted : Result (Bor (List (List ℕ))) ChartFault → Result ℕ ChartFault
-counted (Ok rows) = Ok (length rows.now)
-counted (Err e) = Err e
+abbrev pub rows_counted : Result (Bor (List (List ℕ))) ChartFault → Result ℕ ChartFault
+rows_counted (Ok rows) = Ok (length rows.now)
+rows_counted (Err e) = Err e

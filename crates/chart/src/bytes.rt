@@ -1,9 +1,8 @@
 // The bytes of rows, read where they lie.
-ghost use Rattle.std.specs.Prelude.{◌≡◌, ◌≤◌, not, length, position, drop};
-ghost use Rattle.std.specs.List.{enumerate_from};
+ghost use Rattle.std.specs.Prelude.{◌≡◌, ◌≤◌, drop};
 ghost use Rattle.rows.specs.Law.{targets_max};
 ghost use Rattle.chart.specs.Layout.{need_byte, count_byte, target_bytes, row_of};
-ghost use Rattle.chart.specs.Check.{all_zero, row_right};
+ghost use Rattle.chart.specs.Check.{all_zero, row_right, first_wrong_row};
 
 use rows::{TARGETS_MAX, row_fits};
 use tables::JOBS_MAX;
@@ -72,7 +71,7 @@ fn is_right(jobs: usize, job: usize, row: &RowBytes) -> bool
 
 // The first job whose bytes are not right.
 pub fn first_wrong_row(rows: &[RowBytes]) -> Option<usize>
-    ensures { result ≡ position (λ r. not (row_right (length rows.now) r.0 r.1)) (enumerate_from 0 rows.now) }
+    ensures { result ≡ first_wrong_row rows.now }
 {
     rows.iter()
         .enumerate()

@@ -11,9 +11,9 @@ module _ {S T : Type 0} (held : S → Held T) (gives : S → T → S → Type 0)
   Popped (Some x) before after = gives before x after × ((held after).capacity ≡ (held before).capacity)
 
   -- The same into a lent place: where none comes, that is as before too.
-  abbrev pub Took : Bool → (before after : S) → (old new : T) → Type 0
-  Took true before after old new = Popped (Some new) before after
-  Took false before after old new = Popped None before after × (new ≡ old)
+  abbrev pub TookInto : Bool → (before after : S) → (old new : T) → Type 0
+  TookInto true before after old new = Popped (Some new) before after
+  TookInto false before after old new = Popped None before after × (new ≡ old)
 
 -- The record at a place goes, so that with it back at that place all are there again; past the last place none goes, and
 -- nothing changes.

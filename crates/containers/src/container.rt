@@ -2,7 +2,7 @@
 ghost use Rattle.std.specs.Prelude.{◌≡◌, ◌≤◌, ◌∷◌, length, is_ok, if◌then◌else◌};
 ghost use Rattle.std.specs.List.Sorted.{IsPermutation};
 ghost use Rattle.containers.specs.Held.{Held, has_room, with_last};
-ghost use Rattle.containers.specs.Taken.{Popped, Took};
+ghost use Rattle.containers.specs.Taken.{Popped, TookInto};
 
 // The refusal of a put: as many records are held as there is room for.
 #[derive(Clone, Copy, Drop, PartialEq, Eq, Debug)]
@@ -41,7 +41,7 @@ pub trait Container<T: Copy> {
     // The same into a lent place, a form that the rules fix; where none comes, it answers false, and that place stays as it
     // is too.
     fn take(&mut self, out: &mut T) -> bool
-        ensures { Took held gives result self.old self.new out.old out.new }
+        ensures { TookInto held gives result self.old self.new out.old out.new }
     {
         let Some(element) = self.pop() else {
             return false;

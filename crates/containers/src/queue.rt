@@ -2,7 +2,7 @@
 ghost use Rattle.std.specs.Prelude.{◌≡◌, ◌<◌, ◌∷◌, length};
 ghost use Rattle.containers.specs.Held.{vacant};
 ghost use Rattle.containers.specs.Rings.{IsCellAfter};
-ghost use Rattle.containers.specs.Orders.{first_loses_none};
+ghost use Rattle.containers.specs.Orders.{gives_oldest, first_loses_none};
 
 use crate::container::{Container, Full};
 use std::marker::Model;
@@ -48,7 +48,7 @@ impl<'a, T: Copy> Container<T> for Queue<'a, T> {
 
     ghost keeps = { λ _ _. Unit {0} };
 
-    ghost gives = { λ q x r. q.items ≡ x ∷ r.items };
+    ghost gives = { gives_oldest };
 
     ghost loses_none = { first_loses_none };
 

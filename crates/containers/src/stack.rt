@@ -3,7 +3,7 @@ ghost use Rattle.std.specs.Prelude.{◌≡◌, ◌<◌, [], ◌∷◌, ◌++◌,
 ghost use Rattle.std.specs.List.{insert};
 ghost use Rattle.containers.specs.Held.{vacant, holding};
 ghost use Rattle.containers.specs.Taken.{Removed};
-ghost use Rattle.containers.specs.Orders.{last_loses_none};
+ghost use Rattle.containers.specs.Orders.{gives_newest, last_loses_none};
 
 use crate::container::{Container, Full};
 use std::marker::Model;
@@ -62,7 +62,7 @@ impl<'a, T: Copy> Container<T> for Stack<'a, T> {
 
     ghost keeps = { λ _ _. Unit {0} };
 
-    ghost gives = { λ s x t. s.items ≡ t.items ++ x ∷ [] };
+    ghost gives = { gives_newest };
 
     ghost loses_none = { last_loses_none };
 

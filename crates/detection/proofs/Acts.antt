@@ -7,13 +7,13 @@ use Rattle.carriers.specs.declared.message.Kind.TheVariants.{Grant, Ack}
 use Rattle.carriers.specs.declared.message.Wait.{Wait}
 use Rattle.carriers.specs.Meaning.{Carried, Sent}
 use Rattle.carriers.proofs.Sends.{sent_more, length-sent}
-use Rattle.rows.specs.Waiting.{Waiting, at}
+use Rattle.rows.specs.Waiting.{Waiting, at, is_active}
 use Rattle.rows.specs.Law.{targets_max}
 use Rattle.tables.specs.Tables.{waiters}
-use Rattle.exchange.specs.Messages.{message, to, notifies, grants}
+use Rattle.exchange.specs.Messages.{message, to, notify_messages, grant_messages}
 use Rattle.exchange.specs.Records.{with_granted, with_freed_by}
 use Rattle.exchange.specs.Bounds.{Due}
-use Rattle.exchange.specs.Rules.{Act, and_then, is_active, let_go, notify_all, spread, freed_on, react}
+use Rattle.exchange.specs.Rules.{Act, and_then, let_go, notify_all, spread, freed_on, react}
 use Rattle.exchange.specs.declared.record.RunRecord.{RunRecord}
 use Rattle.detection.specs.Asked.{Tabled, RoomFor}
 use Rattle.detection.proofs.Few.{targets_are_few}
@@ -24,8 +24,8 @@ module _ (rows : List Waiting) (j : ℕ) (r : RunRecord) where
   active_job_lets_go active =
       cond-true (is_active rows j) (and_then (notify_all rows j r) (let_go rows j)) (notify_all rows j r) (eq-eqb (at rows j).need 0 active)
 
-  pub active_job_puts_both : (at rows j).need ≡ 0 → length (spread rows j r).puts ≡ length (notifies rows j) + length (grants rows j)
-  active_job_puts_both active = ap (λ (a : Act). length a.puts) (active_job_lets_go active) ∙ length-append (notifies rows j) (grants rows j)
+  pub active_job_puts_both : (at rows j).need ≡ 0 → length (spread rows j r).puts ≡ length (notify_messages rows j) + length (grant_messages rows j)
+  active_job_puts_both active = ap (λ (a : Act). length a.puts) (active_job_lets_go active) ∙ length-append (notify_messages rows j) (grant_messages rows j)
 
 -- A GRANT finds a job that was granted less often than any row has targets.
 pub grant_finds_few_granted : {rows : List Waiting} → Tabled rows → {kind : Kind} (w : Wait) (r : RunRecord) → kind ≡ Grant → Due rows kind w r
@@ -57,31 +57,31 @@ module _ {rows : List Waiting} {kind : Kind} {w : Wait} {r : RunRecord} {job : �
       ap (λ (j : ℕ). (let_go rows j (with_freed_by w (with_granted (r.granted + 1) r))).becomes) receiver_is_the_waiter
       ∙ ap (λ (a : Act). a.becomes) (sym freed_job_lets_go)
 
-  freed_job_puts : (react rows kind w r).puts ≡ grants rows job ++ cond (eqb (length (waiters rows job)) 0) (message Ack w ∷ []) []
+  freed_job_puts : (react rows kind w r).puts ≡ grant_messages rows job ++ cond (eqb (length (waiters rows job)) 0) (message Ack w ∷ []) []
   freed_job_puts =
       ap (λ (a : Act). a.puts) freed_job_lets_go
-      ∙ ap (λ (j : ℕ). grants rows j ++ cond (eqb (length (waiters rows j)) 0) (message Ack w ∷ []) []) (sym receiver_is_the_waiter)
+      ∙ ap (λ (j : ℕ). grant_messages rows j ++ cond (eqb (length (waiters rows j)) 0) (message Ack w ∷ []) []) (sym receiver_is_the_waiter)
 
-  pub freed_job_has_room_for_grants : (before : Carried) → RoomFor before (react rows kind w r).puts → RoomFor before (grants rows job)
+  pub freed_job_has_room_for_grants : (before : Carried) → RoomFor before (react rows kind w r).puts → RoomFor before (grant_messages rows job)
   freed_job_has_room_for_grants before room =
-      omega (arith, ap length freed_job_puts, length-append (grants rows job) (cond (eqb (length (waiters rows job)) 0) (message Ack w ∷ []) []))
+      omega (arith, ap length freed_job_puts, length-append (grant_messages rows job) (cond (eqb (length (waiters rows job)) 0) (message Ack w ∷ []) []))
 
-  module _ (none : length (waiters rows job) ≡ 0) {before between : Carried} (sent : Sent before between (grants rows job)) where
-    freed_job_without_waiters_puts : (react rows kind w r).puts ≡ grants rows job ++ message Ack w ∷ []
+  module _ (none : length (waiters rows job) ≡ 0) {before between : Carried} (sent : Sent before between (grant_messages rows job)) where
+    freed_job_without_waiters_puts : (react rows kind w r).puts ≡ grant_messages rows job ++ message Ack w ∷ []
     freed_job_without_waiters_puts =
-        freed_job_puts ∙ ap (λ (b : Bool). grants rows job ++ cond b (message Ack w ∷ []) []) (eq-eqb (length (waiters rows job)) 0 none)
+        freed_job_puts ∙ ap (λ (b : Bool). grant_messages rows job ++ cond b (message Ack w ∷ []) []) (eq-eqb (length (waiters rows job)) 0 none)
 
     pub freed_job_has_room_for_ack : RoomFor before (react rows kind w r).puts → RoomFor between (message Ack w ∷ [])
     freed_job_has_room_for_ack room =
         omega (
           arith,
           ap length freed_job_without_waiters_puts,
-          length-append (grants rows job) (message Ack w ∷ []),
-          length-sent before between (grants rows job) sent,
+          length-append (grant_messages rows job) (message Ack w ∷ []),
+          length-sent before between (grant_messages rows job) sent,
           sent.capacity,
         )
 
     pub freed_job_sends_grants_and_ack : {after : Carried} → Sent between after (message Ack w ∷ []) → Sent before after (react rows kind w r).puts
     freed_job_sends_grants_and_ack {after} then =
         subst (Sent before after) (sym freed_job_without_waiters_puts)
-        (sent_more before between after (grants rows job) (message Ack w ∷ []) sent then)
+        (sent_more before between after (grant_messages rows job) (message Ack w ∷ []) sent then)

@@ -12,14 +12,14 @@ use Rattle.exchange.specs.Bounds.{Awaited, Bounded}
 use Rattle.exchange.specs.Messages.{receiver}
 use Rattle.exchange.specs.Records.{blank}
 use Rattle.exchange.specs.Rules.{spread}
-use Rattle.exchange.specs.Runs.{State, reaction, stays, Exchange}
+use Rattle.exchange.specs.Runs.{RunState, reaction, stays, Exchange}
 use Rattle.exchange.specs.declared.record.RunRecord.{RunRecord}
 use Rattle.exchange.proofs.Bounded.{runs_are_bounded}
 use Rattle.detection.specs.Asked.{Tabled, RoomFor}
 use Rattle.exchange.proofs.Ends.{exchange_goes_on}
 use Rattle.detection.proofs.Few.{waits_are_few}
 
-abbrev pub state : List RunRecord → List Message → State
+abbrev pub state : List RunRecord → List Message → RunState
 state records waiting = record { records = records; waiting = waiting }
 
 -- The records and the carrier are those of a run. As it began, the carrier had room for so many, and had handed out `before`.

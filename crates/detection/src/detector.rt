@@ -1,9 +1,9 @@
 // The detection: a run of the exchange from one job, over any table and any carrier.
-ghost use Rattle.std.specs.Prelude.{◌≡◌, ◌*◌, ◌<◌, ◌≤◌, length, MatchResult};
-ghost use Rattle.std.specs.Result.{result_err};
+ghost use Rattle.std.specs.Prelude.{◌≡◌, ◌*◌, ◌<◌, ◌≤◌, length, IfErr};
 ghost use Rattle.tables.specs.Tables.{waits_max, waits as waits_of};
 ghost use Rattle.exchange.specs.Bounds.{capacity_per_wait};
-ghost use Rattle.detection.specs.Detected.{stop, Finished, verdict_of};
+ghost use Rattle.detection.specs.Detects.{Detects};
+ghost use Rattle.detection.specs.Detected.{Finished, verdict_of};
 
 use crate::fault::DetectionFault;
 use crate::lawful::LawfulTable;
@@ -24,8 +24,8 @@ pub fn detect<T: TwoWayTable, C: Carrier>(
     records: &mut [RunRecord],
     carrier: &mut C,
 ) -> Result<Detection, DetectionFault>
-    ensures stopped { result_err result ≡ stop (T.Table.rows table.now) initiator (length records.old) (C.Carrier.carried carrier.old) }
-    ensures after { MatchResult result (λ d. Finished (T.Table.rows table.now) initiator records.old records.new (C.Carrier.carried carrier.old) (C.Carrier.carried carrier.new) d) (λ _. (records.new ≡ records.old) × (carrier.new ≡ carrier.old)) }
+    ensures detects { Detects (T.Table.rows table.now) initiator records.old records.new (C.Carrier.carried carrier.old) (C.Carrier.carried carrier.new) result }
+    ensures unchanged { IfErr result (λ _. carrier.new ≡ carrier.old) }
 {
     let jobs = table.jobs();
     if initiator >= jobs {

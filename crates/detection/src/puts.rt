@@ -3,7 +3,7 @@ ghost use Rattle.std.specs.Prelude.{◌≡◌, [], ◌∷◌, length};
 ghost use Rattle.carriers.specs.Meaning.{Sent};
 ghost use Rattle.rows.specs.Waiting.{at};
 ghost use Rattle.tables.specs.Tables.{waiters};
-ghost use Rattle.exchange.specs.Messages.{message, notifies, grants, put_on};
+ghost use Rattle.exchange.specs.Messages.{message, notify_messages, grant_messages, put_on};
 ghost use Rattle.detection.specs.Asked.{RoomFor};
 
 use crate::lawful::LawfulTable;
@@ -34,9 +34,9 @@ pub fn send_notifies<T: TwoWayTable, C: Carrier>(
     job: u8,
     carrier: &mut C,
 ) -> u16
-    requires room { RoomFor (C.Carrier.carried carrier.old) (notifies (T.Table.rows table.now.table.now) job) }
+    requires room { RoomFor (C.Carrier.carried carrier.old) (notify_messages (T.Table.rows table.now.table.now) job) }
     ensures count { result ≡ length (at (T.Table.rows table.now.table.now) job).targets }
-    ensures sent { Sent (C.Carrier.carried carrier.old) (C.Carrier.carried carrier.new) (notifies (T.Table.rows table.now.table.now) job) }
+    ensures sent { Sent (C.Carrier.carried carrier.old) (C.Carrier.carried carrier.new) (notify_messages (T.Table.rows table.now.table.now) job) }
 {
     // counted as they are put: asked apart, the number would take the table a second reading
     let mut count = 0;
@@ -58,9 +58,9 @@ pub fn send_grants<T: TwoWayTable, C: Carrier>(
     job: u8,
     carrier: &mut C,
 ) -> u16
-    requires room { RoomFor (C.Carrier.carried carrier.old) (grants (T.Table.rows table.now.table.now) job) }
+    requires room { RoomFor (C.Carrier.carried carrier.old) (grant_messages (T.Table.rows table.now.table.now) job) }
     ensures count { result ≡ length (waiters (T.Table.rows table.now.table.now) job) }
-    ensures sent { Sent (C.Carrier.carried carrier.old) (C.Carrier.carried carrier.new) (grants (T.Table.rows table.now.table.now) job) }
+    ensures sent { Sent (C.Carrier.carried carrier.old) (C.Carrier.carried carrier.new) (grant_messages (T.Table.rows table.now.table.now) job) }
 {
     // counted as they are put, as above
     let mut count = 0;

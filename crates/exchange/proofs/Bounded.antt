@@ -5,7 +5,7 @@ use Rattle.carriers.specs.declared.message.Kind.{Kind}
 use Rattle.carriers.specs.declared.message.Message.{Message}
 use Rattle.carriers.specs.declared.message.Wait.{Wait}
 use Rattle.rows.specs.Waiting.{Waiting}
-use Rattle.exchange.specs.Runs.{State, Run, stays, delivers, Exchange}
+use Rattle.exchange.specs.Runs.{RunState, Run, stays, delivers, Exchange}
 use Rattle.exchange.specs.Bounds.{Awaited, RunsAreBounded}
 use Rattle.exchange.proofs.Entries
 use Rattle.exchange.proofs.Kept.{Kept, delivery_keeps, start_keeps, finds_due, length-by_weight}
@@ -15,19 +15,19 @@ use Rattle.exchange.proofs.Weights.{weigh}
 
 module _ (rows : List Waiting) (ok : Sound rows) where
   -- A run keeps what each delivery keeps.
-  pub run_keeps : (initiator k : ℕ) {s t : State} {ms : List Message} → Run rows s ms t → Kept rows initiator k s → Kept rows initiator (k + length ms) t
+  pub run_keeps : (initiator k : ℕ) {s t : RunState} {ms : List Message} → Run rows s ms t → Kept rows initiator k s → Kept rows initiator (k + length ms) t
   run_keeps initiator k {t = t} stays v = let e : k ≡ k + 0 = omega arith in subst (λ (n : ℕ). Kept rows initiator n t) e v
   run_keeps initiator k {t = u} (delivers {s = s} {t = t} {m = m} {ms = ms} d run) v =
       let e : suc k + length ms ≡ k + suc (length ms) = omega arith in
       subst (λ (n : ℕ). Kept rows initiator n u) e (run_keeps initiator (suc k) run (delivery_keeps rows ok initiator k s t m v d))
 
-  pub exchange_keeps : (initiator : ℕ) → initiator < length rows → (order : List Message) (s : State) → Exchange rows initiator order s → Kept rows initiator (length order) s
+  pub exchange_keeps : (initiator : ℕ) → initiator < length rows → (order : List Message) (s : RunState) → Exchange rows initiator order s → Kept rows initiator (length order) s
   exchange_keeps initiator l order s x =
       let e : 0 + length order ≡ length order = omega arith in
       subst (λ (n : ℕ). Kept rows initiator n s) e (run_keeps initiator 0 x.run (start_keeps rows ok initiator l x.first x.begins))
 
   -- Each message that waits is awaited.
-  all_awaited : (initiator k : ℕ) (s : State) → Kept rows initiator k s → AllByRecursion (Awaited rows s.records) s.waiting
+  all_awaited : (initiator k : ℕ) (s : RunState) → Kept rows initiator k s → AllByRecursion (Awaited rows s.records) s.waiting
   all_awaited initiator k s v = part s.waiting v.on_waits (λ f. omega arith)
     where
       part : (ms : List Message) → AllByRecursion (Entries.OnWait rows) ms → ((f : Kind → Wait → ℕ) → weigh f ms ≤ weigh f s.waiting) → AllByRecursion (Awaited rows s.records) ms

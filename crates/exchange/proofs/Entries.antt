@@ -4,10 +4,9 @@ use Rattle.carriers.specs.declared.message.Kind.{Kind}
 use Rattle.carriers.specs.declared.message.Kind.TheVariants.{Notify, Done, Grant, Ack}
 use Rattle.carriers.specs.declared.message.Message.{Message}
 use Rattle.carriers.specs.declared.message.Wait.{Wait}
-use Rattle.rows.specs.Waiting.{Waiting, among}
+use Rattle.rows.specs.Waiting.{Waiting, among, is_active}
 use Rattle.tables.specs.Closed.{count}
 use Rattle.tables.specs.Tables.{waiters}
-use Rattle.exchange.specs.Rules.{is_active}
 use Rattle.exchange.specs.declared.record.RunRecord.{RunRecord}
 use Rattle.exchange.proofs.Sound.{need, targets}
 

@@ -7,7 +7,7 @@ use Rattle.carriers.specs.declared.message.Wait.{Wait}
 use Rattle.rows.specs.Waiting.{Waiting}
 use Rattle.tables.specs.Tables.{waiters}
 use Rattle.exchange.specs.Records.{blank}
-use Rattle.exchange.specs.Runs.{State, Exchange}
+use Rattle.exchange.specs.Runs.{RunState, Exchange}
 use Rattle.exchange.specs.declared.record.RunRecord.{RunRecord}
 use Rattle.exchange.proofs.Bounded.{exchange_keeps}
 use Rattle.exchange.proofs.Entries
@@ -52,7 +52,7 @@ owes_no_done rows x j n d r rank records h a f = go (Entries.due rows j r) r.not
 nothing_due : (rows : List Waiting) (j : ℕ) (r : RunRecord) → r.acks_due ≡ 0 → r.dones_due ≡ 0 → Entries.due rows j r ≡ 0
 nothing_due rows j r a b = grind (arith, nat_tests)
 
-module _ (rows : List Waiting) (ok : Sound rows) (initiator : ℕ) (l : initiator < length rows) (order : List Message) (s : State) (x : Exchange rows initiator order s) (none : s.waiting ≡ []) where
+module _ (rows : List Waiting) (ok : Sound rows) (initiator : ℕ) (l : initiator < length rows) (order : List Message) (s : RunState) (x : Exchange rows initiator order s) (none : s.waiting ≡ []) where
   v : Kept rows initiator (length order) s
   v = exchange_keeps rows ok initiator l order s x
 

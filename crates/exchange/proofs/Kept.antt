@@ -19,7 +19,7 @@ use Rattle.tables.proofs.Laws.{who_waits_is_a_job}
 use Rattle.exchange.specs.Messages.{to, receiver}
 use Rattle.exchange.specs.Records.{blank}
 use Rattle.exchange.specs.Rules.{Act, spread}
-use Rattle.exchange.specs.Runs.{State, reaction, Begins, Delivers}
+use Rattle.exchange.specs.Runs.{RunState, reaction, Begins, Delivers}
 use Rattle.exchange.specs.Bounds.{Due}
 use Rattle.exchange.specs.declared.record.RunRecord.{RunRecord}
 use Rattle.exchange.proofs.Entries
@@ -33,21 +33,21 @@ abbrev pub sums : ℕ → List RunRecord → (ℕ → RunRecord → ℕ) → ℕ
 sums n records f = total n (λ j. f j (get_or records j blank))
 
 -- An entry of the records comes to what messages on their way and another entry come to.
-abbrev pub Balanced : (jobs : ℕ) → State → (ℕ → RunRecord → ℕ) → (Kind → Wait → ℕ) → (ℕ → RunRecord → ℕ) → Type 0
+abbrev pub Balanced : (jobs : ℕ) → RunState → (ℕ → RunRecord → ℕ) → (Kind → Wait → ℕ) → (ℕ → RunRecord → ℕ) → Type 0
 Balanced jobs s entry weight other = sums jobs s.records entry ≡ weigh weight s.waiting + sums jobs s.records other
 
 -- First messages on their way or still to be put, and answers on their way or owed.
-abbrev pub firsts_left : List Waiting → State → ℕ
+abbrev pub firsts_left : List Waiting → RunState → ℕ
 firsts_left rows s = weigh Entries.first s.waiting + sums (length rows) s.records (Entries.ahead rows)
 
-abbrev pub answers_left : List Waiting → State → ℕ
+abbrev pub answers_left : List Waiting → RunState → ℕ
 answers_left rows s = weigh Entries.answer s.waiting + sums (length rows) s.records (Entries.owed rows)
 
 -- A notified job is in R, and a free one in S.
 abbrev pub Held : (R S : ℕ → Bool) → ℕ → RunRecord → Type 0
 Held R S j r = (r.notified ≡ true → R j ≡ true) × (r.free ≡ true → S j ≡ true)
 
-pub record Kept (rows : List Waiting) (initiator k : ℕ) (s : State) : Type 0 where
+pub record Kept (rows : List Waiting) (initiator k : ℕ) (s : RunState) : Type 0 where
   pub records : length s.records ≡ length rows
   pub fair : (j : ℕ) → j < length rows → Entries.Fair rows j (get_or s.records j blank)
   pub on_waits : AllByRecursion (Entries.OnWait rows) s.waiting
@@ -89,26 +89,26 @@ sums_after_a_write n records j r f e l =
 
 module _ (rows : List Waiting) (ok : Sound rows) where
   -- The entry of one job.
-  pub sum_of_dones : (s : State) (x : ℕ) → x < length rows → sums (length rows) s.records (Entries.dones_of x) ≡ (get_or s.records x blank).dones_due
+  pub sum_of_dones : (s : RunState) (x : ℕ) → x < length rows → sums (length rows) s.records (Entries.dones_of x) ≡ (get_or s.records x blank).dones_due
   sum_of_dones s x l = total_at (length rows) x (λ j. (get_or s.records j blank).dones_due) l
 
-  pub sum_of_acks : (s : State) (x : ℕ) → x < length rows → sums (length rows) s.records (Entries.acks_of x) ≡ (get_or s.records x blank).acks_due
+  pub sum_of_acks : (s : RunState) (x : ℕ) → x < length rows → sums (length rows) s.records (Entries.acks_of x) ≡ (get_or s.records x blank).acks_due
   sum_of_acks s x l = total_at (length rows) x (λ j. (get_or s.records j blank).acks_due) l
 
-  pub sum_of_granted : (s : State) (x : ℕ) → x < length rows → sums (length rows) s.records (Entries.granted_of x) ≡ (get_or s.records x blank).granted
+  pub sum_of_granted : (s : RunState) (x : ℕ) → x < length rows → sums (length rows) s.records (Entries.granted_of x) ≡ (get_or s.records x blank).granted
   sum_of_granted s x l = total_at (length rows) x (λ j. (get_or s.records j blank).granted) l
 
-  pub sum_of_notified : (s : State) (x : ℕ) → x < length rows → sums (length rows) s.records (Entries.notified_of x) ≡ cond (get_or s.records x blank).notified 1 0
+  pub sum_of_notified : (s : RunState) (x : ℕ) → x < length rows → sums (length rows) s.records (Entries.notified_of x) ≡ cond (get_or s.records x blank).notified 1 0
   sum_of_notified s x l = total_at (length rows) x (λ j. cond (get_or s.records j blank).notified 1 0) l
 
-  abbrev pub is_free : State → ℕ → Bool
+  abbrev pub is_free : RunState → ℕ → Bool
   is_free s u = (get_or s.records u blank).free
 
-  pub sum_of_free : (s : State) (x : ℕ) → sums (length rows) s.records (Entries.free_for rows x) ≡ count (is_free s) (targets rows x)
+  pub sum_of_free : (s : RunState) (x : ℕ) → sums (length rows) s.records (Entries.free_for rows x) ≡ count (is_free s) (targets rows x)
   sum_of_free s x = sym (count_is_total (length rows) 0 (is_free s) (targets rows x) (ok.rises x) (ok.below x))
 
   -- What a message on its way finds.
-  pub finds_due : (initiator k : ℕ) (s : State) → Kept rows initiator k s → (c : Kind) (w : Wait) → Entries.Waits rows w → ((f : Kind → Wait → ℕ) → f c w ≤ weigh f s.waiting)
+  pub finds_due : (initiator k : ℕ) (s : RunState) → Kept rows initiator k s → (c : Kind) (w : Wait) → Entries.Waits rows w → ((f : Kind → Wait → ℕ) → f c w ≤ weigh f s.waiting)
       → Due rows c w (get_or s.records (to c w) blank)
   finds_due initiator k s v Notify w o h = tt
   finds_due initiator k s v Done w o h =
@@ -130,7 +130,7 @@ module _ (rows : List Waiting) (ok : Sound rows) where
       grind (arith, nat_tests)
 
   -- A delivery.
-  module _ (initiator k : ℕ) (s t : State) (m : Message) (v : Kept rows initiator k s) (d : Delivers rows m s t) where
+  module _ (initiator k : ℕ) (s t : RunState) (m : Message) (v : Kept rows initiator k s) (d : Delivers rows m s t) where
     abbrev j : ℕ
     j = receiver m
 
@@ -273,7 +273,7 @@ module _ (rows : List Waiting) (ok : Sound rows) where
         }
 
   -- The start.
-  module _ (initiator : ℕ) (il : initiator < length rows) (s : State) (b : Begins rows initiator s) where
+  module _ (initiator : ℕ) (il : initiator < length rows) (s : RunState) (b : Begins rows initiator s) where
     abbrev blanks : List RunRecord
     blanks = replicate (length rows) blank
 

@@ -11,7 +11,7 @@ use Rattle.tables.proofs.Grants.{row_after_a_write}
 use Rattle.exchange.specs.Messages.{receiver}
 use Rattle.exchange.specs.Records.{blank}
 use Rattle.exchange.specs.Rules.{spread}
-use Rattle.exchange.specs.Runs.{State, reaction, Begins, Delivers, Run, stays, delivers}
+use Rattle.exchange.specs.Runs.{RunState, reaction, Begins, Delivers, Run, stays, delivers}
 use Rattle.exchange.specs.declared.record.RunRecord.{RunRecord}
 use Rattle.exchange.proofs.Kept.{Kept, delivery_keeps, is_a_job, notifier_is_notified, granter_is_free}
 use Rattle.exchange.proofs.Reactions
@@ -96,13 +96,13 @@ notifier w = w.waiter
 abbrev pub granter : Wait → ℕ
 granter w = w.target
 
-pub record Timed (rows : List Waiting) (k : ℕ) (s : State) : Type 0 where
+pub record Timed (rows : List Waiting) (k : ℕ) (s : RunState) : Type 0 where
   pub notices : Ranked is_notified notified_by notifier (length rows) k s.records
   pub frees : Ranked is_free freed_by granter (length rows) k s.records
 
 module _ (rows : List Waiting) (ok : Sound rows) (initiator : ℕ) where
   -- A delivery reaches a job after the one that put the message.
-  delivery_is_timed : (k : ℕ) (s t : State) (m : Message) → Kept rows initiator k s → Delivers rows m s t → Timed rows k s → Timed rows (suc k) t
+  delivery_is_timed : (k : ℕ) (s t : RunState) (m : Message) → Kept rows initiator k s → Delivers rows m s t → Timed rows k s → Timed rows (suc k) t
   delivery_is_timed k s t m v d w =
       let old = get_or s.records (receiver m) blank in
       let new = (reaction rows s.records m).becomes in
@@ -122,7 +122,7 @@ module _ (rows : List Waiting) (ok : Sound rows) (initiator : ℕ) where
             ]);
       }
 
-  pub start_is_timed : initiator < length rows → (s : State) → Begins rows initiator s → Timed rows 0 s
+  pub start_is_timed : initiator < length rows → (s : RunState) → Begins rows initiator s → Timed rows 0 s
   start_is_timed il s b =
       let new = (spread rows initiator blank).becomes in
       record {
@@ -132,7 +132,7 @@ module _ (rows : List Waiting) (ok : Sound rows) (initiator : ℕ) where
             (ranked_at_first is_free freed_by granter (length rows) initiator new il refl (Reactions.at_spread rows ok (λ a. a.becomes.freed_by ≡ None) initiator blank (λ z. refl) (λ z. refl)));
       }
 
-  pub run_is_timed : (k : ℕ) {s t : State} {ms : List Message} → Run rows s ms t → Kept rows initiator k s → Timed rows k s → Timed rows (k + length ms) t
+  pub run_is_timed : (k : ℕ) {s t : RunState} {ms : List Message} → Run rows s ms t → Kept rows initiator k s → Timed rows k s → Timed rows (k + length ms) t
   run_is_timed k {t = t} stays v w = let e : k ≡ k + 0 = omega arith in subst (λ (n : ℕ). Timed rows n t) e w
   run_is_timed k {t = u} (delivers {s = s} {t = t} {m = m} {ms = ms} d run) v w =
       let e : suc k + length ms ≡ k + suc (length ms) = omega arith in

@@ -12,7 +12,7 @@ use Rattle.rows.specs.Law.{rising}
 use Rattle.tables.specs.Tables.{waiters}
 use Rattle.tables.proofs.Laws.{who_waits_is_a_job}
 use Rattle.tables.proofs.Waiters.{among_rising_is_not_below, waiters_are_who_waits, waiters_rise}
-use Rattle.exchange.specs.Messages.{on, message, to, notifies, grants, put_on}
+use Rattle.exchange.specs.Messages.{on, message, to, notify_messages, grant_messages, put_on}
 use Rattle.exchange.specs.Records.{blank, with_granted, with_notified_by, freed}
 use Rattle.exchange.specs.Rules.{Act, and_then, let_go, notify_all, spread, react, freed_on}
 use Rattle.exchange.specs.Bounds.{Due}
@@ -47,13 +47,13 @@ one_grant_to j x low (v ∷ vs) r =
 
 module _ (rows : List Waiting) (ok : Sound rows) where
   -- What all NOTIFYs of a spread weigh together, and all GRANTs of a letting go.
-  weigh_notifies : (f : Kind → Wait → ℕ) (j : ℕ) (b : Bool) → ((u : ℕ) → f Notify (on j u) ≡ cond b 1 0) → weigh f (notifies rows j) ≡ cond b (length (targets rows j)) 0
+  weigh_notifies : (f : Kind → Wait → ℕ) (j : ℕ) (b : Bool) → ((u : ℕ) → f Notify (on j u) ≡ cond b 1 0) → weigh f (notify_messages rows j) ≡ cond b (length (targets rows j)) 0
   weigh_notifies f j b h = weigh_alike f (λ (u : ℕ). message Notify (on j u)) b h (targets rows j)
 
-  weigh_grants : (f : Kind → Wait → ℕ) (j : ℕ) (b : Bool) → ((v : ℕ) → f Grant (on v j) ≡ cond b 1 0) → weigh f (grants rows j) ≡ cond b (length (waiters rows j)) 0
+  weigh_grants : (f : Kind → Wait → ℕ) (j : ℕ) (b : Bool) → ((v : ℕ) → f Grant (on v j) ≡ cond b 1 0) → weigh f (grant_messages rows j) ≡ cond b (length (waiters rows j)) 0
   weigh_grants f j b h = weigh_alike f (λ (v : ℕ). message Grant (on v j)) b h (waiters rows j)
 
-  grants_to : (x j : ℕ) → weigh (Entries.grant_to x) (grants rows j) ≡ cond (among j (targets rows x)) 1 0
+  grants_to : (x j : ℕ) → weigh (Entries.grant_to x) (grant_messages rows j) ≡ cond (among j (targets rows x)) 1 0
   grants_to x j = one_grant_to j x 0 (waiters rows j) (waiters_rise rows j) ∙ ap (λ (b : Bool). cond b 1 0) (waiters_are_who_waits rows j x)
 
   -- A reaction by its cases.
@@ -78,15 +78,15 @@ module _ (rows : List Waiting) (ok : Sound rows) where
       (λ e. a (grind (arith, nat_tests)) (grind (arith, nat_tests))) (λ e. b (λ f g. grind (arith, nat_tests)))
 
   -- What the puts of a spread, and of a freed job, weigh.
-  weigh_spread : (f : Kind → Wait → ℕ) (j : ℕ) (r : RunRecord) → weigh f (spread rows j r).puts ≡ weigh f (notifies rows j) + cond (eqb (need rows j) 0) (weigh f (grants rows j)) 0
+  weigh_spread : (f : Kind → Wait → ℕ) (j : ℕ) (r : RunRecord) → weigh f (spread rows j r).puts ≡ weigh f (notify_messages rows j) + cond (eqb (need rows j) 0) (weigh f (grant_messages rows j)) 0
   weigh_spread f j r =
-      let e = weigh_append f (notifies rows j) (grants rows j) in
+      let e = weigh_append f (notify_messages rows j) (grant_messages rows j) in
       cond_both (eqb (need rows j) 0) (and_then (notify_all rows j r) (let_go rows j)) (notify_all rows j r)
-      (λ (a : Act). weigh f a.puts ≡ weigh f (notifies rows j) + cond (eqb (need rows j) 0) (weigh f (grants rows j)) 0) (λ h. grind arith) (λ h. grind arith)
+      (λ (a : Act). weigh f a.puts ≡ weigh f (notify_messages rows j) + cond (eqb (need rows j) 0) (weigh f (grant_messages rows j)) 0) (λ h. grind arith) (λ h. grind arith)
 
-  weigh_freed : (f : Kind → Wait → ℕ) (w : Wait) (r : RunRecord) → weigh f (freed_on rows w r).puts ≡ weigh f (grants rows w.waiter) + cond (eqb (length (waiters rows w.waiter)) 0) (f Ack w) 0
+  weigh_freed : (f : Kind → Wait → ℕ) (w : Wait) (r : RunRecord) → weigh f (freed_on rows w r).puts ≡ weigh f (grant_messages rows w.waiter) + cond (eqb (length (waiters rows w.waiter)) 0) (f Ack w) 0
   weigh_freed f w r =
-      let e = weigh_append f (grants rows w.waiter) (cond (eqb (length (waiters rows w.waiter)) 0) (message Ack w ∷ []) []) in
+      let e = weigh_append f (grant_messages rows w.waiter) (cond (eqb (length (waiters rows w.waiter)) 0) (message Ack w ∷ []) []) in
       grind (arith, nat_tests)
 
   -- A job that spreads on a NOTIFY has something due before it closes its notice.
@@ -146,7 +146,7 @@ module _ (rows : List Waiting) (ok : Sound rows) where
       let g = weigh_spread (Entries.grant_of x) j r in
       let e = weigh_notifies (Entries.grant_of x) j false (λ u. refl) in
       let f = weigh_grants (Entries.grant_of x) j (eqb j x) (λ v. refl) in
-      at_spread (λ a. weigh (Entries.grant_of x) a.puts ≡ weigh (Entries.grant_of x) (notifies rows j) + cond (eqb (need rows j) 0) (weigh (Entries.grant_of x) (grants rows j)) 0
+      at_spread (λ a. weigh (Entries.grant_of x) a.puts ≡ weigh (Entries.grant_of x) (notify_messages rows j) + cond (eqb (need rows j) 0) (weigh (Entries.grant_of x) (grant_messages rows j)) 0
       → Entries.acks_of x j a.becomes + Entries.owes_ack x j r ≡ Entries.acks_of x j r + (weigh (Entries.grant_of x) a.puts + Entries.owes_ack x j a.becomes)) j r
       (λ z w. let b = u.unfree z in grind (arith, nat_tests)) (λ z w. grind (arith, nat_tests)) g
 
@@ -185,7 +185,7 @@ module _ (rows : List Waiting) (ok : Sound rows) where
   spread_grants x j r u =
       let e = weigh_notifies (Entries.grant_to x) j false (λ u. refl) in
       let f = grants_to x j in
-      at_spread (λ a. weigh (Entries.grant_to x) a.puts ≡ weigh (Entries.grant_to x) (notifies rows j) + cond (eqb (need rows j) 0) (weigh (Entries.grant_to x) (grants rows j)) 0
+      at_spread (λ a. weigh (Entries.grant_to x) a.puts ≡ weigh (Entries.grant_to x) (notify_messages rows j) + cond (eqb (need rows j) 0) (weigh (Entries.grant_to x) (grant_messages rows j)) 0
       → Entries.free_for rows x j a.becomes + Entries.granted_of x j r ≡ Entries.free_for rows x j r + (weigh (Entries.grant_to x) a.puts + Entries.granted_of x j a.becomes)) j r
       (λ z w. let b = u.unfree z in grind (arith, nat_tests)) (λ z w. grind (arith, nat_tests)) (weigh_spread (Entries.grant_to x) j r)
 
@@ -219,7 +219,7 @@ module _ (rows : List Waiting) (ok : Sound rows) where
       let k = some_notify x y (targets rows x) a in
       elim (cases_eq j x) [
         | inl e ↦ (
-            let here : 1 ≤ weigh (Entries.notify_on x y) (notifies rows j) = subst (λ (z : ℕ). 1 ≤ weigh (Entries.notify_on x y) (notifies rows z)) (sym e) k in
+            let here : 1 ≤ weigh (Entries.notify_on x y) (notify_messages rows j) = subst (λ (z : ℕ). 1 ≤ weigh (Entries.notify_on x y) (notify_messages rows z)) (sym e) k in
             grind (arith, nat_tests))
         | inr e ↦ grind (arith, nat_tests)
       ]
@@ -249,7 +249,7 @@ module _ (rows : List Waiting) (ok : Sound rows) where
       let e = weigh_notifies Entries.first j true (λ u. refl) in
       let f = weigh_grants Entries.first j true (λ v. refl) in
       let n = u.unnotified in
-      at_spread (λ a. weigh Entries.first a.puts ≡ weigh Entries.first (notifies rows j) + cond (eqb (need rows j) 0) (weigh Entries.first (grants rows j)) 0
+      at_spread (λ a. weigh Entries.first a.puts ≡ weigh Entries.first (notify_messages rows j) + cond (eqb (need rows j) 0) (weigh Entries.first (grant_messages rows j)) 0
       → weigh Entries.first a.puts + Entries.ahead rows j a.becomes ≡ Entries.ahead rows j r) j r
       (λ z w. let b = u.unfree z in grind (arith, nat_tests)) (λ z w. grind (arith, nat_tests)) (weigh_spread Entries.first j r)
 
@@ -285,7 +285,7 @@ module _ (rows : List Waiting) (ok : Sound rows) where
       let q = l.unnotified n in
       let u = unspread w.target r l n in
       at_spread (λ a. 0 < Entries.due rows w.target a.becomes
-      → weigh Entries.answer a.puts ≡ weigh Entries.answer (notifies rows w.target) + cond (eqb (need rows w.target) 0) (weigh Entries.answer (grants rows w.target)) 0
+      → weigh Entries.answer a.puts ≡ weigh Entries.answer (notify_messages rows w.target) + cond (eqb (need rows w.target) 0) (weigh Entries.answer (grant_messages rows w.target)) 0
       → weigh Entries.answer a.puts + Entries.owed rows w.target a.becomes ≡ 1 + Entries.owed rows w.target r) w.target (with_notified_by w r)
       (λ z p y. let b = u.unfree z in grind (arith, nat_tests)) (λ z p y. grind (arith, nat_tests)) (spread_is_due w r a) (weigh_spread Entries.answer w.target (with_notified_by w r))
 
@@ -350,16 +350,16 @@ module _ (rows : List Waiting) (ok : Sound rows) where
   ack_on_wait j None a = tt
   ack_on_wait j (Some w) a = (a.1, tt)
 
-  notifies_on_waits : (j : ℕ) → AllByRecursion (Entries.OnWait rows) (notifies rows j)
+  notifies_on_waits : (j : ℕ) → AllByRecursion (Entries.OnWait rows) (notify_messages rows j)
   notifies_on_waits j = All-map (Entries.OnWait rows) (λ (u : ℕ). message Notify (on j u)) (targets rows j) (each_is_among (targets rows j))
 
-  grants_on_waits : (j : ℕ) → AllByRecursion (Entries.OnWait rows) (grants rows j)
+  grants_on_waits : (j : ℕ) → AllByRecursion (Entries.OnWait rows) (grant_messages rows j)
   grants_on_waits j = All-map (Entries.OnWait rows) (λ (v : ℕ). message Grant (on v j)) (waiters rows j) (each_waiter_waits rows ok j)
 
   pub spread_on_waits : (j : ℕ) (r : RunRecord) → AllByRecursion (Entries.OnWait rows) (spread rows j r).puts
   spread_on_waits j r =
       at_spread (λ a. AllByRecursion (Entries.OnWait rows) a.puts) j r
-      (λ z. All-append (Entries.OnWait rows) (notifies rows j) (grants rows j) (notifies_on_waits j) (grants_on_waits j)) (λ z. notifies_on_waits j)
+      (λ z. All-append (Entries.OnWait rows) (notify_messages rows j) (grant_messages rows j) (notifies_on_waits j) (grants_on_waits j)) (λ z. notifies_on_waits j)
 
   pub puts_on_waits : (k : Kind) (w : Wait) (r : RunRecord) → Entries.Fair rows (to k w) r → Entries.Waits rows w → AllByRecursion (Entries.OnWait rows) (react rows k w r).puts
   puts_on_waits Notify w r l o = at_notify (λ a. AllByRecursion (Entries.OnWait rows) a.puts) w r (λ e. (o, tt)) (λ e. spread_on_waits w.target (with_notified_by w r))
@@ -367,7 +367,7 @@ module _ (rows : List Waiting) (ok : Sound rows) where
       cond_both (eqb (r.dones_due - 1) 0) (put_on Done r.notified_by) [] (AllByRecursion (Entries.OnWait rows)) (λ e. done_on_wait r.notified_by l.notified_by) (λ e. tt)
   puts_on_waits Grant w r l o =
       at_grant (λ a. AllByRecursion (Entries.OnWait rows) a.puts) w r
-      (λ e f. All-append (Entries.OnWait rows) (grants rows w.waiter) (cond (eqb (length (waiters rows w.waiter)) 0) (message Ack w ∷ []) []) (grants_on_waits w.waiter)
+      (λ e f. All-append (Entries.OnWait rows) (grant_messages rows w.waiter) (cond (eqb (length (waiters rows w.waiter)) 0) (message Ack w ∷ []) []) (grants_on_waits w.waiter)
       (cond_both (eqb (length (waiters rows w.waiter)) 0) (message Ack w ∷ []) [] (AllByRecursion (Entries.OnWait rows)) (λ e. (o, tt)) (λ e. tt)))
       (λ e. (o, tt))
   puts_on_waits Ack w r l o =

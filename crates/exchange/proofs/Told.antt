@@ -5,7 +5,7 @@ use Rattle.rows.specs.Waiting.{Waiting, among}
 use Rattle.tables.specs.Closed.{count, Loosened}
 use Rattle.tables.proofs.Grants.{closed_from, loosened_can_be_freed}
 use Rattle.exchange.specs.Records.{blank}
-use Rattle.exchange.specs.Runs.{State}
+use Rattle.exchange.specs.Runs.{RunState}
 use Rattle.exchange.specs.Verdicts.{EndedRunsTell}
 use Rattle.exchange.proofs.Bounded.{exchange_keeps}
 use Rattle.exchange.proofs.Entries
@@ -13,7 +13,7 @@ use Rattle.exchange.proofs.Kept.{Kept, sum_of_granted, sum_of_notified, sum_of_f
 use Rattle.exchange.proofs.Sound.{need, targets, Sound, lawful_is_sound, count_grows}
 use Rattle.exchange.proofs.Weights.{weigh}
 
-module _ (rows : List Waiting) (ok : Sound rows) (initiator k : ℕ) (s : State) (v : Kept rows initiator k s) (none : s.waiting ≡ []) where
+module _ (rows : List Waiting) (ok : Sound rows) (initiator k : ℕ) (s : RunState) (v : Kept rows initiator k s) (none : s.waiting ≡ []) where
   abbrev free : ℕ → Bool
   free j = (get_or s.records j blank).free
 

@@ -9,7 +9,7 @@ use Rattle.rows.specs.Waiting.{Waiting, at}
 use Rattle.tables.specs.Tables.{lawful, waits}
 use Rattle.exchange.specs.Messages.{receiver}
 use Rattle.exchange.specs.Records.{blank}
-use Rattle.exchange.specs.Runs.{State, Exchange}
+use Rattle.exchange.specs.Runs.{RunState, Exchange}
 use Rattle.exchange.specs.declared.record.RunRecord.{RunRecord}
 
 -- A run has at most so many deliveries for each wait.
@@ -34,7 +34,7 @@ pub record Awaited (rows : List Waiting) (records : List RunRecord) (m : Message
   pub due : Due rows m.kind m.wait (slice_index_or records (receiver m) blank)
 
 -- What holds wherever a run has come to, after k deliveries.
-pub record Bounded (rows : List Waiting) (k : ℕ) (s : State) : Type 0 where
+pub record Bounded (rows : List Waiting) (k : ℕ) (s : RunState) : Type 0 where
   -- each job has a record
   pub records : length s.records ≡ length rows
   -- there are at most four deliveries a wait, so every run ends
@@ -45,7 +45,8 @@ pub record Bounded (rows : List Waiting) (k : ℕ) (s : State) : Type 0 where
 
 -- It holds at every moment of every run from an initiator, in whatever order the messages come.
 abbrev pub RunsBounded : List Waiting → ℕ → Type 0
-RunsBounded rows initiator = (order : List Message) (s : State) → Exchange rows initiator order s → Bounded rows (length order) s
+RunsBounded rows initiator = (order : List Message) (s : RunState) → Exchange rows initiator order s → Bounded rows (length order) s
 
+-- So it is over every lawful table, from each of its jobs.
 abbrev pub RunsAreBounded : Type 0
 RunsAreBounded = (rows : List Waiting) → lawful rows ≡ true → (initiator : ℕ) → initiator < length rows → RunsBounded rows initiator

@@ -25,12 +25,12 @@ abbrev pub receiver : Message → ℕ
 receiver m = to m.kind m.wait
 
 -- NOTIFY on each wait (j, any).
-abbrev pub notifies : List Waiting → ℕ → List Message
-notifies rows j = map (λ (u : ℕ). message Notify (on j u)) (at rows j).targets
+abbrev pub notify_messages : List Waiting → ℕ → List Message
+notify_messages rows j = map (λ (u : ℕ). message Notify (on j u)) (at rows j).targets
 
 -- GRANT on each wait (any, j).
-abbrev pub grants : List Waiting → ℕ → List Message
-grants rows j = map (λ (v : ℕ). message Grant (on v j)) (waiters rows j)
+abbrev pub grant_messages : List Waiting → ℕ → List Message
+grant_messages rows j = map (λ (v : ℕ). message Grant (on v j)) (waiters rows j)
 
 -- A message on a wait that a record names; where it names none, no message.
 abbrev pub put_on : Kind → Option Wait → List Message

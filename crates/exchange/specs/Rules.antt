@@ -5,9 +5,9 @@ use Rattle.carriers.specs.declared.message.Kind.{Kind}
 use Rattle.carriers.specs.declared.message.Kind.TheVariants.{Notify, Done, Grant, Ack}
 use Rattle.carriers.specs.declared.message.Message.{Message}
 use Rattle.carriers.specs.declared.message.Wait.{Wait}
-use Rattle.rows.specs.Waiting.{Waiting, at}
+use Rattle.rows.specs.Waiting.{Waiting, at, is_active}
 use Rattle.tables.specs.Tables.{waiters}
-use Rattle.exchange.specs.Messages.{message, notifies, grants, put_on}
+use Rattle.exchange.specs.Messages.{message, notify_messages, grant_messages, put_on}
 use Rattle.exchange.specs.Records.{notified, freed, with_granted, with_dones, with_acks, with_notified_by, with_freed_by}
 use Rattle.exchange.specs.declared.record.RunRecord.{RunRecord}
 
@@ -20,17 +20,15 @@ pub record Act : Type 0 where
 abbrev pub and_then : Act → (RunRecord → Act) → Act
 and_then a next = record { becomes = (next a.becomes).becomes; puts = a.puts ++ (next a.becomes).puts }
 
-abbrev pub is_active : List Waiting → ℕ → Bool
-is_active rows j = (at rows j).need == 0
-
 -- To let go, j becomes free and puts GRANT on each wait for it; its acks due is their number.
 abbrev pub let_go : List Waiting → ℕ → RunRecord → Act
-let_go rows j r = record { becomes = freed (length (waiters rows j)) r; puts = grants rows j }
+let_go rows j r = record { becomes = freed (length (waiters rows j)) r; puts = grant_messages rows j }
 
--- To spread, j becomes notified and puts NOTIFY on each of its waits; its dones due is their number. An active j then lets go.
+-- The first part of spreading: j becomes notified and puts NOTIFY on each of its waits; its dones due is their number.
 abbrev pub notify_all : List Waiting → ℕ → RunRecord → Act
-notify_all rows j r = record { becomes = notified (length (at rows j).targets) r; puts = notifies rows j }
+notify_all rows j r = record { becomes = notified (length (at rows j).targets) r; puts = notify_messages rows j }
 
+-- To spread, j notifies all that it waits for. An active j then lets go.
 abbrev pub spread : List Waiting → ℕ → RunRecord → Act
 spread rows j r = cond (is_active rows j) (and_then (notify_all rows j r) (let_go rows j)) (notify_all rows j r)
 
@@ -48,12 +46,13 @@ on_notify rows w r = cond r.notified
 abbrev pub on_done : Wait → RunRecord → Act
 on_done w r = record { becomes = with_dones (r.dones_due - 1) r; puts = cond (r.dones_due - 1 == 0) (close_notice r) [] }
 
--- GRANT on w, to its waiter: granted rises by 1. One that is not free, and has been granted just what it needs, notes w as its
--- freed-by and lets go; with no ack due then, it puts ACK on w. One that does not let go puts ACK on w.
+-- What a GRANT on w does that frees its waiter: it notes w as its freed-by and lets go; with no ack due then, it puts ACK on w.
 abbrev pub freed_on : List Waiting → Wait → RunRecord → Act
 freed_on rows w r = and_then (let_go rows w.waiter (with_freed_by w (with_granted (r.granted + 1) r)))
     (λ (q : RunRecord). record { becomes = q; puts = cond (q.acks_due == 0) (message Ack w ∷ []) [] })
 
+-- GRANT on w, to its waiter: granted rises by 1. One that is not free, and has been granted just what it needs, is freed. One that does
+-- not let go puts ACK on w.
 abbrev pub on_grant : List Waiting → Wait → RunRecord → Act
 on_grant rows w r = cond (not r.free && r.granted + 1 == (at rows w.waiter).need)
     (freed_on rows w r)

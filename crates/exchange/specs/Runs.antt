@@ -10,7 +10,7 @@ use Rattle.exchange.specs.Rules.{Act, spread, react}
 use Rattle.exchange.specs.declared.record.RunRecord.{RunRecord}
 
 -- The record of each job, and the messages that wait, as a collection: their order means nothing.
-pub record State : Type 0 where
+pub record RunState : Type 0 where
   pub records : List RunRecord
   pub waiting : List Message
 
@@ -19,24 +19,24 @@ abbrev pub reaction : List Waiting → List RunRecord → Message → Act
 reaction rows records m = react rows m.kind m.wait (slice_index_or records (receiver m) blank)
 
 -- At the start every record is blank, and the initiator spreads.
-pub record Begins (rows : List Waiting) (initiator : ℕ) (s : State) : Type 0 where
+pub record Begins (rows : List Waiting) (initiator : ℕ) (s : RunState) : Type 0 where
   pub records : s.records ≡ slice_set (replicate (length rows) blank) initiator (spread rows initiator blank).becomes
   pub waiting : IsPermutation (spread rows initiator blank).puts s.waiting
 
 -- A delivery takes one of the messages that wait; its receiver reacts, and what it puts waits beside the rest.
-pub record Delivers (rows : List Waiting) (m : Message) (before after : State) : Type 0 where
+pub record Delivers (rows : List Waiting) (m : Message) (before after : RunState) : Type 0 where
   pub rest : List Message
   pub taken : IsPermutation (m ∷ rest) before.waiting
   pub records : after.records ≡ slice_set before.records (receiver m) (reaction rows before.records m).becomes
   pub waiting : IsPermutation (rest ++ (reaction rows before.records m).puts) after.waiting
 
 -- A run from one state to another, by the messages that it delivers, the first one first.
-pub data Run (rows : List Waiting) : State → List Message → State → Type 0 where
-  stays : {s : State} → Run rows s [] s
-  delivers : {s t u : State} {m : Message} {ms : List Message} → Delivers rows m s t → Run rows t ms u → Run rows s (m ∷ ms) u
+pub data Run (rows : List Waiting) : RunState → List Message → RunState → Type 0 where
+  stays : {s : RunState} → Run rows s [] s
+  delivers : {s t u : RunState} {m : Message} {ms : List Message} → Delivers rows m s t → Run rows t ms u → Run rows s (m ∷ ms) u
 
 -- A run of the exchange: it begins with the initiator's spread.
-pub record Exchange (rows : List Waiting) (initiator : ℕ) (order : List Message) (last : State) : Type 0 where
-  pub first : State
+pub record Exchange (rows : List Waiting) (initiator : ℕ) (order : List Message) (last : RunState) : Type 0 where
+  pub first : RunState
   pub begins : Begins rows initiator first
   pub run : Run rows first order last

@@ -3,7 +3,11 @@ use Rattle.std.proofs.Common.{◌≡◌, ℕ, zero, suc, ◌+◌, ◌<◌, Bool,
 use Rattle.std.proofs.lemmas.Bool.{and_from, and_parts}
 use Rattle.groups.specs.declared.store.Old.{Old}
 use Rattle.groups.specs.State.{State, old_row, noted, merged, unwound, restored, outside, fresh, written, kept, cancelled}
-use Rattle.groups.specs.Obeys.{rows_obey, olds_obey, groups_obey, Obeys}
+use Rattle.groups.specs.Obeys.{rows_obey, olds_obey, groups_obey}
+
+-- the law holds of all rows, and of all that could be put back
+abbrev pub Obeys : {P : Type 0} → (ℕ → P → Bool) → State P → Type 0
+Obeys law s = (rows_obey law 0 s.rows ≡ true) × (groups_obey law s.groups ≡ true)
 
 module _ {P : Type 0} (law : ℕ → P → Bool) where
   -- a law holds of the row at each place

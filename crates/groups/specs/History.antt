@@ -19,7 +19,7 @@ join (history o (g ∷ gs)) c = history o ((g ++ c ∷ []) ∷ gs)
 abbrev pub nest : {C : Type 0} → History C → History C
 nest (history o gs) = history o ([] ∷ gs)
 
--- A keeping joins the innermost list to the end of the next.
+-- A keeping appends the calls of the innermost list to the list around it; where no group is open, nothing changes.
 abbrev pub merge : {C : Type 0} → History C → History C
 merge (history o []) = history o []
 merge (history o (g ∷ [])) = history (o ++ g) []

@@ -1,7 +1,7 @@
 -- The limits of groups.
 use Rattle.std.specs.Prelude.{ℕ}
 
--- How many rows there are.
+-- How many rows groups keep, whatever the number of jobs: one for each number of a byte.
 abbrev pub row_count : ℕ
 row_count = 256
 

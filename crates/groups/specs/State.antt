@@ -1,7 +1,7 @@
 -- Rows with open groups, and what each call makes of them.
 use Rattle.std.specs.Prelude.{ℕ, ◌+◌, min, Bool, ◌&&◌, List, [], ◌∷◌, ◌++◌, length, replicate, ◌==◌, nat_le, nat_lt, slice_index_or, slice_set}
 use Rattle.groups.specs.declared.store.Old.{Old}
-use Rattle.groups.specs.Limits.{trail_max}
+use Rattle.groups.specs.Limits.{depth_max, trail_max}
 
 -- The rows; the old rows that each open group would put back, the innermost group first and in each the oldest first;
 -- the mark of the tickets; and how many old rows the trail has room for.
@@ -28,6 +28,10 @@ face s = record { rows = s.rows; depth = length s.groups; used = total s.groups 
 -- The trail is full for the next write: a group is open, and the groups hold as many records as there is room.
 abbrev pub full : {P : Type 0} → ℕ → Face P → Bool
 full room f = nat_lt 0 f.depth && nat_le room f.used
+
+-- One more group may be opened.
+abbrev pub can_open : {P : Type 0} → Face P → Bool
+can_open f = nat_lt f.depth depth_max
 
 -- A ticket is the innermost group's: its mark is the right one, and its depth is the number of open groups, not 0.
 abbrev pub innermost : {P : Type 0} → ℕ → Face P → (mark depth : ℕ) → Bool

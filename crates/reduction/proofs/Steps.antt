@@ -9,9 +9,9 @@ use Rattle.containers.specs.Held.{Held, vacant}
 use Rattle.rows.specs.Waiting.{Waiting, at, among}
 use Rattle.tables.specs.Closed.{count, Closed, Loosened}
 use Rattle.tables.proofs.Grants.{closed_at}
-use Rattle.reduction.specs.Marks.{loose, held, marked}
+use Rattle.reduction.specs.Marks.{loose, held, is_loose}
 use Rattle.tables.specs.Tables.{jobs_max}
-use Rattle.reduction.specs.Work.{Work, loose_count, done, steps_left, Marks, SettledIn, Settled, at_hand, CanBeMarked, with_mark, Decided, next_is}
+use Rattle.reduction.specs.Work.{Work, loose_count, looked_at, steps_left, SoundMarks, SettledIn, Settled, at_hand, CanBeLoosened, with_loose, Decided, next_is}
 
 -- ---- counts
 
@@ -22,9 +22,9 @@ count_same S S' (t ∷ ts) e =
     let there = count_same S S' ts (λ u a. e u (let q = a in grind (arith, nat_tests))) in
     ap (λ b. cond b 1 0 + count S ts) here ∙ ap (λ n. cond (S' t) 1 0 + n) there
 
-pub count_less : (S S' : ℕ → Bool) (ts : List ℕ) → ((u : ℕ) → S u ≡ true → S' u ≡ true) → count S ts ≤ count S' ts
+pub count_less : (S S' : ℕ → Bool) (ts : List ℕ) → ((u : ℕ) → among u ts ≡ true → S u ≡ true → S' u ≡ true) → count S ts ≤ count S' ts
 count_less S S' [] e = omega arith
-count_less S S' (t ∷ ts) e = go (S t) (S' t) (e t) (count_less S S' ts e)
+count_less S S' (t ∷ ts) e = go (S t) (S' t) (e t (let q = eq-eqb t t refl in rw q)) (count_less S S' ts (λ u a. e u (let q = a in grind (arith, nat_tests))))
   where
     go : (a b : Bool) → (a ≡ true → b ≡ true) → count S ts ≤ count S' ts → cond a 1 0 + count S ts ≤ cond b 1 0 + count S' ts
     go true true h l = omega arith
@@ -51,50 +51,50 @@ among_push u x (y ∷ ys) = let rest = among_push u x ys in rw rest (grind (arit
 
 -- ---- marks
 
-marked_set : (marks : List ℕ) (i v : ℕ) → i < length marks → (v ≡ i → ⊥) → marked (set marks i loose) v ≡ marked marks v
+marked_set : (marks : List ℕ) (i v : ℕ) → i < length marks → (v ≡ i → ⊥) → is_loose (set marks i loose) v ≡ is_loose marks v
 marked_set marks i v l d = ap (λ m. eqb m loose) (get_or-set_other marks i v loose held d)
 
-marked_here : (marks : List ℕ) (i : ℕ) → i < length marks → marked (set marks i loose) i ≡ true
+marked_here : (marks : List ℕ) (i : ℕ) → i < length marks → is_loose (set marks i loose) i ≡ true
 marked_here marks i l = ap (λ m. eqb m loose) (get_or-set_same marks i loose held l)
 
 -- what is marked stays so
-pub marked_still : (marks : List ℕ) (i v : ℕ) → i < length marks → marked marks v ≡ true → marked (set marks i loose) v ≡ true
+pub marked_still : (marks : List ℕ) (i v : ℕ) → i < length marks → is_loose marks v ≡ true → is_loose (set marks i loose) v ≡ true
 marked_still marks i v l m = elim (cases_eq v i) [
   | inl e ↦ rw e (marked_here marks i l)
   | inr d ↦ marked_set marks i v l d ∙ m
 ]
 
-pub unmarked_before : (marks : List ℕ) (i v : ℕ) → i < length marks → marked (set marks i loose) v ≡ false → (marked marks v ≡ false) × (v ≡ i → ⊥)
+pub unmarked_before : (marks : List ℕ) (i v : ℕ) → i < length marks → is_loose (set marks i loose) v ≡ false → (is_loose marks v ≡ false) × (v ≡ i → ⊥)
 unmarked_before marks i v l m = (
-  elim (cases_Bool (marked marks v)) [
+  elim (cases_Bool (is_loose marks v)) [
     | inl t ↦ absurd (true≢false (sym (marked_still marks i v l t) ∙ m))
     | inr f ↦ f
   ],
-  λ e. true≢false (sym (marked_here marks i l) ∙ subst (λ k. marked (set marks i loose) k ≡ false) e m),
+  λ e. true≢false (sym (marked_here marks i l) ∙ subst (λ k. is_loose (set marks i loose) k ≡ false) e m),
 )
 
 -- a job that is marked and queued is not done, so that nothing more is done
-pub done_same : (marks queue : List ℕ) (i v : ℕ) → i < length marks → marked marks i ≡ false → done (set marks i loose) (queue ++ i ∷ []) v ≡ done marks queue v
+pub done_same : (marks queue : List ℕ) (i v : ℕ) → i < length marks → is_loose marks i ≡ false → looked_at (set marks i loose) (queue ++ i ∷ []) v ≡ looked_at marks queue v
 done_same marks queue i v l m = elim (cases_eq v i) [
-  | inl e ↦ subst (λ k. done (set marks i loose) (queue ++ i ∷ []) k ≡ done marks queue k) (sym e) here
+  | inl e ↦ subst (λ k. looked_at (set marks i loose) (queue ++ i ∷ []) k ≡ looked_at marks queue k) (sym e) here
   | inr d ↦ there d
 ]
   where
-    here : done (set marks i loose) (queue ++ i ∷ []) i ≡ done marks queue i
+    here : looked_at (set marks i loose) (queue ++ i ∷ []) i ≡ looked_at marks queue i
     here = let a = among_push i i queue in let q = eq-eqb i i refl in rw (a, m) (let k = q in grind (arith, nat_tests))
 
-    there : (v ≡ i → ⊥) → done (set marks i loose) (queue ++ i ∷ []) v ≡ done marks queue v
+    there : (v ≡ i → ⊥) → looked_at (set marks i loose) (queue ++ i ∷ []) v ≡ looked_at marks queue v
     there d = let a = among_push v i queue in let q = ne_eqb i v (λ e. d (sym e)) in let b = marked_set marks i v l d in rw (b, a) (let k = q in grind (arith, nat_tests))
 
 -- one mark more, where there was another
-one_more : (w : Work) (i : ℕ) → Marks w → CanBeMarked w i → loose_count (set w.marks i loose) ≡ loose_count w.marks + 1
+one_more : (w : Work) (i : ℕ) → SoundMarks w → CanBeLoosened w i → loose_count (set w.marks i loose) ≡ loose_count w.marks + 1
 one_more w i b m = omega (arith, rw m.unmarked at (sum_by-set {X = ℕ} (λ n. cond (eqb n loose) 1 0) w.marks i loose held (omega (arith, b.len, m.is_job))))
 
-not_all : (w : Work) (i : ℕ) → Marks w → CanBeMarked w i → loose_count w.marks < length w.marks
+not_all : (w : Work) (i : ℕ) → SoundMarks w → CanBeLoosened w i → loose_count w.marks < length w.marks
 not_all w i b m = omega (arith, one_more w i b m, count_by-le-length (λ n. eqb n loose) (set w.marks i loose), length-set w.marks i loose)
 
 -- one job more is marked and queued, which every closed set holds
-pub mark_base : (w : Work) (i : ℕ) → Marks w → CanBeMarked w i → Marks (with_mark w i)
+pub mark_base : (w : Work) (i : ℕ) → SoundMarks w → CanBeLoosened w i → SoundMarks (with_loose w i)
 mark_base w i b m =
     let k : i < length w.marks = omega (arith, b.len, m.is_job) in
     record {
@@ -112,34 +112,34 @@ mark_base w i b m =
     }
 
 -- there is room in the queue for a job that is not marked
-pub queue_room_left : (w : Work) (i : ℕ) → Marks w → CanBeMarked w i → length w.queue < jobs_max
+pub queue_room_left : (w : Work) (i : ℕ) → SoundMarks w → CanBeLoosened w i → length w.queue < jobs_max
 queue_room_left w i b m = omega (arith, b.few, b.size, not_all w i b m)
 
 -- what is queued more can be marked less
-pub mark_steps : (w : Work) (i : ℕ) → Marks w → CanBeMarked w i → steps_left (with_mark w i) ≡ steps_left w
+pub mark_steps : (w : Work) (i : ℕ) → SoundMarks w → CanBeLoosened w i → steps_left (with_loose w i) ≡ steps_left w
 mark_steps w i b m = omega (arith, length_push w.queue i, length-set w.marks i loose, one_more w i b m, not_all w i b m)
 
-pub mark_settled : (w : Work) (i from to : ℕ) (rest : List ℕ) → i < length w.marks → marked w.marks i ≡ false → ((v : ℕ) → done (set w.marks i loose) rest v ≡ done w.marks w.queue v) → SettledIn from to w → SettledIn from to (record { rows = w.rows; marks = set w.marks i loose; queue = rest })
+pub mark_settled : (w : Work) (i from to : ℕ) (rest : List ℕ) → i < length w.marks → is_loose w.marks i ≡ false → ((v : ℕ) → looked_at (set w.marks i loose) rest v ≡ looked_at w.marks w.queue v) → SettledIn from to w → SettledIn from to (record { rows = w.rows; marks = set w.marks i loose; queue = rest })
 mark_settled w i from to rest l m same s v a b u =
-    let e = count_same (done (set w.marks i loose) rest) (done w.marks w.queue) (at w.rows v).targets (λ t _. same t) in
+    let e = count_same (looked_at (set w.marks i loose) rest) (looked_at w.marks w.queue) (at w.rows v).targets (λ t _. same t) in
     omega (arith, e, s v a b (unmarked_before w.marks i v l u).0)
 
 -- ---- the loop over the jobs at the start
 
 pub record Started (w : Work) (i : ℕ) : Type 0 where
-  pub base : Marks w
-  pub later : (v : ℕ) → i ≤ v → marked w.marks v ≡ false
-  pub none : (v : ℕ) → done w.marks w.queue v ≡ false
-  pub blocked : (v : ℕ) → v < i → marked w.marks v ≡ false → 0 < (at w.rows v).need
+  pub base : SoundMarks w
+  pub later : (v : ℕ) → i ≤ v → is_loose w.marks v ≡ false
+  pub none : (v : ℕ) → looked_at w.marks w.queue v ≡ false
+  pub blocked : (v : ℕ) → v < i → is_loose w.marks v ≡ false → 0 < (at w.rows v).need
 
 -- no mark at all
-held_nowhere : (n v : ℕ) → marked (replicate n held) v ≡ false
+held_nowhere : (n v : ℕ) → is_loose (replicate n held) v ≡ false
 held_nowhere n v = elim (cases_lt v n) [
   | inl l ↦ ap (λ m. eqb m loose) (get_or-replicate n v held held l)
   | inr l ↦ ap (λ m. eqb m loose) (get_or_past (replicate n held) v held (omega (arith, length-replicate n held)))
 ]
 
-pub start_base : (rows : List Waiting) → length rows ≤ jobs_max → Marks (record { rows = rows; marks = replicate jobs_max held; queue = [] })
+pub start_base : (rows : List Waiting) → length rows ≤ jobs_max → SoundMarks (record { rows = rows; marks = replicate jobs_max held; queue = [] })
 start_base rows l = record {
   size = length-replicate jobs_max held;
   len = omega (arith, length-replicate jobs_max held);
@@ -157,7 +157,7 @@ start_zero rows l = record {
 }
 
 -- an empty queue, and no mark
-pub start_made : (rows : List Waiting) (queue : Held ℕ) → queue ≡ vacant jobs_max → length rows ≤ jobs_max → Marks (record { rows = rows; marks = replicate jobs_max held; queue = queue.items }) × (queue.capacity ≡ jobs_max)
+pub start_made : (rows : List Waiting) (queue : Held ℕ) → queue ≡ vacant jobs_max → length rows ≤ jobs_max → SoundMarks (record { rows = rows; marks = replicate jobs_max held; queue = queue.items }) × (queue.capacity ≡ jobs_max)
 start_made rows queue e l = rw e (start_base rows l, refl)
 
 pub start_first : (rows : List Waiting) (queue : Held ℕ) → queue ≡ vacant jobs_max → length rows ≤ jobs_max → Started (record { rows = rows; marks = replicate jobs_max held; queue = queue.items }) 0
@@ -172,10 +172,10 @@ start_skip w i s b = record {
 }
 
 -- an active job can be marked
-pub start_can : (w : Work) (i : ℕ) → i < length w.rows → Started w i → (at w.rows i).need ≡ 0 → CanBeMarked w i
+pub start_can : (w : Work) (i : ℕ) → i < length w.rows → Started w i → (at w.rows i).need ≡ 0 → CanBeLoosened w i
 start_can w i l s z = record { is_job = l; unmarked = s.later i (omega arith); loosened = λ S c. c.active i l z }
 
-pub start_mark : (w : Work) (i : ℕ) → CanBeMarked w i → Started w i → Started (with_mark w i) (i + 1)
+pub start_mark : (w : Work) (i : ℕ) → CanBeLoosened w i → Started w i → Started (with_loose w i) (i + 1)
 start_mark w i can s =
     let k : i < length w.marks = omega (arith, s.base.len, can.is_job) in
     record {
@@ -187,25 +187,25 @@ start_mark w i can s =
 
 pub start_settled : (w : Work) (i : ℕ) → length w.rows ≤ i → Started w i → Settled w
 start_settled w i l s v a b m =
-    let none = count_none (done w.marks w.queue) (at w.rows v).targets s.none in
+    let none = count_none (looked_at w.marks w.queue) (at w.rows v).targets s.none in
     omega (arith, none, s.blocked v (omega arith) m)
 
 -- ---- one pass over the waiters of a job
 
 pub record Passing (w₀ : Work) (job i : ℕ) (w : Work) : Type 0 where
   pub rows : w.rows ≡ w₀.rows
-  pub base : Marks w
+  pub base : SoundMarks w
   pub before : SettledIn 0 i w
   pub behind : SettledIn i (length w.rows) (at_hand w job)
   pub steps : steps_left w ≡ steps_left w₀
 
 -- the next job, where nothing is to be marked
-pub pass_next : (w₀ : Work) (job i : ℕ) (w : Work) → Passing w₀ job i w → (marked w.marks i ≡ false → count (done w.marks w.queue) (at w.rows i).targets < (at w.rows i).need) → Passing w₀ job (i + 1) w
+pub pass_next : (w₀ : Work) (job i : ℕ) (w : Work) → Passing w₀ job i w → (is_loose w.marks i ≡ false → count (looked_at w.marks w.queue) (at w.rows i).targets < (at w.rows i).need) → Passing w₀ job (i + 1) w
 pass_next w₀ job i w p here = record {
   rows = p.rows;
   base = p.base;
   before = λ v a b m. elim (cases_eq v i) [
-    | inl e ↦ subst (λ k. count (done w.marks w.queue) (at w.rows k).targets < (at w.rows k).need) (sym e) (here (subst (λ k. marked w.marks k ≡ false) e m))
+    | inl e ↦ subst (λ k. count (looked_at w.marks w.queue) (at w.rows k).targets < (at w.rows k).need) (sym e) (here (subst (λ k. is_loose w.marks k ≡ false) e m))
     | inr d ↦ p.before v a (omega arith) m
   ];
   behind = λ v a b m. p.behind v (omega arith) b m;
@@ -220,27 +220,27 @@ pass_marked w₀ job i w p l d =
     same : get_or w.marks i held ≡ get_or w.marks i 0
     same = get_or_default w.marks i held 0 (omega (arith, p.base.len))
 
-    go : (get_or w.marks i held ≡ loose) ⊎ (get_or w.marks i held ≡ held) → marked w.marks i ≡ false → ⊥
+    go : (get_or w.marks i held ≡ loose) ⊎ (get_or w.marks i held ≡ held) → is_loose w.marks i ≡ false → ⊥
     go (inl e) m = true≢false (sym (eq-eqb (get_or w.marks i held) loose e) ∙ m)
     go (inr e) m = d (sym same ∙ e)
 
 -- it does not wait for the job
 pub pass_other : (w₀ : Work) (job i : ℕ) (w : Work) → Passing w₀ job i w → i < length w.rows → among job (at w.rows i).targets ≡ false → Passing w₀ job (i + 1) w
 pass_other w₀ job i w p l f =
-    pass_next w₀ job i w p (λ m. omega (arith, p.behind i (omega arith) l m, count_same (done w.marks w.queue) (done w.marks (job ∷ w.queue)) (at w.rows i).targets same))
+    pass_next w₀ job i w p (λ m. omega (arith, p.behind i (omega arith) l m, count_same (looked_at w.marks w.queue) (looked_at w.marks (job ∷ w.queue)) (at w.rows i).targets same))
   where
-    same : (u : ℕ) → among u (at w.rows i).targets ≡ true → done w.marks w.queue u ≡ done w.marks (job ∷ w.queue) u
+    same : (u : ℕ) → among u (at w.rows i).targets ≡ true → looked_at w.marks w.queue u ≡ looked_at w.marks (job ∷ w.queue) u
     same u a = elim (cases_eq job u) [
       | inl e ↦ absurd (true≢false (sym a ∙ subst (λ k. among k (at w.rows i).targets ≡ false) e f))
       | inr d ↦ let q = ne_eqb job u d in rw q
     ]
 
 -- it lacks targets yet
-pub pass_lacking : (w₀ : Work) (job i : ℕ) (w : Work) → Passing w₀ job i w → leb (at w.rows i).need (count (marked w.marks) (at w.rows i).targets) ≡ false → Passing w₀ job (i + 1) w
+pub pass_lacking : (w₀ : Work) (job i : ℕ) (w : Work) → Passing w₀ job i w → leb (at w.rows i).need (count (is_loose w.marks) (at w.rows i).targets) ≡ false → Passing w₀ job (i + 1) w
 pass_lacking w₀ job i w p f =
     pass_next w₀ job i w p (λ m.
-    let less = count_less (done w.marks w.queue) (marked w.marks) (at w.rows i).targets (λ u d. (and_parts (marked w.marks u) _ d).0) in
-    let short : count (marked w.marks) (at w.rows i).targets < (at w.rows i).need = grind (arith, nat_tests) in
+    let less = count_less (looked_at w.marks w.queue) (is_loose w.marks) (at w.rows i).targets (λ u _ d. (and_parts (is_loose w.marks u) _ d).0) in
+    let short : count (is_loose w.marks) (at w.rows i).targets < (at w.rows i).need = grind (arith, nat_tests) in
     omega arith)
 
 -- whichever part of the test fails
@@ -254,20 +254,20 @@ pass_not w₀ job i w p l f = elim (cases_Bool (eqb (get_or w.marks i 0) held)) 
 ]
 
 -- a job that is to be marked can be
-pub pass_can : (w₀ : Work) (job i : ℕ) (w : Work) → Passing w₀ job i w → i < length w.rows → next_is w job i ≡ true → CanBeMarked w i
+pub pass_can : (w₀ : Work) (job i : ℕ) (w : Work) → Passing w₀ job i w → i < length w.rows → next_is w job i ≡ true → CanBeLoosened w i
 pass_can w₀ job i w p l t =
     let k : i < length w.marks = omega (arith, p.base.len) in
     let a = and_parts (eqb (get_or w.marks i 0) held) _ t in
     let f = (and_parts (among job (at w.rows i).targets) _ a.1).1 in
-    let enough : (at w.rows i).need ≤ count (marked w.marks) (at w.rows i).targets = grind (arith, nat_tests) in
+    let enough : (at w.rows i).need ≤ count (is_loose w.marks) (at w.rows i).targets = grind (arith, nat_tests) in
     record {
       is_job = l;
       unmarked = ap (λ n. eqb n loose) (get_or_default w.marks i held 0 k ∙ eqb-true (get_or w.marks i 0) held a.0);
-      loosened = λ S c. closed_at w.rows S c i l (omega (arith, count_less (marked w.marks) S (at w.rows i).targets (λ u h. p.base.sound u h S c)));
+      loosened = λ S c. closed_at w.rows S c i l (omega (arith, count_less (is_loose w.marks) S (at w.rows i).targets (λ u _ h. p.base.sound u h S c)));
     }
 
 -- it is marked
-pub pass_mark : (w₀ : Work) (job i : ℕ) (w : Work) → Passing w₀ job i w → CanBeMarked w i → Passing w₀ job (i + 1) (with_mark w i)
+pub pass_mark : (w₀ : Work) (job i : ℕ) (w : Work) → Passing w₀ job i w → CanBeLoosened w i → Passing w₀ job (i + 1) (with_loose w i)
 pass_mark w₀ job i w p can =
     let k : i < length w.marks = omega (arith, p.base.len, can.is_job) in
     record {
@@ -280,21 +280,21 @@ pass_mark w₀ job i w p can =
 
 -- ---- the end
 
-pub all_decided : (w : Work) → w.queue ≡ [] → Marks w → Settled w → Decided w.rows w.marks
+pub all_decided : (w : Work) → w.queue ≡ [] → SoundMarks w → Settled w → Decided w.rows w.marks
 all_decided w none b s = record {
   len = b.len;
   bits = b.bits;
-  loosened = λ v h. (λ m. b.sound v m, λ f. f (marked w.marks) closed);
+  loosened = λ v h. (λ m. b.sound v m, λ f. f (is_loose w.marks) closed);
 }
   where
-    all : (v : ℕ) → done w.marks w.queue v ≡ marked w.marks v
+    all : (v : ℕ) → looked_at w.marks w.queue v ≡ is_loose w.marks v
     all v = rw none (grind (arith, nat_tests))
 
-    short : (v : ℕ) → v < length w.rows → marked w.marks v ≡ false → count (marked w.marks) (at w.rows v).targets < (at w.rows v).need
-    short v h m = let e = count_same (done w.marks w.queue) (marked w.marks) (at w.rows v).targets (λ u _. all u) in omega (arith, e, s v (omega arith) h m)
+    short : (v : ℕ) → v < length w.rows → is_loose w.marks v ≡ false → count (is_loose w.marks) (at w.rows v).targets < (at w.rows v).need
+    short v h m = let e = count_same (looked_at w.marks w.queue) (is_loose w.marks) (at w.rows v).targets (λ u _. all u) in omega (arith, e, s v (omega arith) h m)
 
-    closed : Closed w.rows (marked w.marks)
+    closed : Closed w.rows (is_loose w.marks)
     closed = record {
-      active = λ v h z. elim (cases_Bool (marked w.marks v)) [ inl m ↦ m | inr m ↦ absurd (omega (arith, short v h m)) ];
-      blocked = λ v h p n. elim (cases_Bool (marked w.marks v)) [ inl m ↦ m | inr m ↦ absurd (omega (arith, short v h m)) ];
+      active = λ v h z. elim (cases_Bool (is_loose w.marks v)) [ inl m ↦ m | inr m ↦ absurd (omega (arith, short v h m)) ];
+      blocked = λ v h p n. elim (cases_Bool (is_loose w.marks v)) [ inl m ↦ m | inr m ↦ absurd (omega (arith, short v h m)) ];
     }

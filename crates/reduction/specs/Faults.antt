@@ -1,4 +1,4 @@
--- The number of each refusal of a reduction.
+-- The number of each refusal of a reduction. None carries a value.
 use Rattle.std.specs.Prelude.{ℕ}
 use Rattle.reduction.specs.declared.fault.ReductionFault.{ReductionFault}
 use Rattle.reduction.specs.declared.fault.ReductionFault.TheVariants.{TooShort}

@@ -1,4 +1,4 @@
--- Jobs marked by bytes.
+-- The bytes that tell of jobs whether they are loosened.
 use Rattle.std.specs.Prelude.{ℕ, Bool, List, ◌==◌, slice_index_or}
 
 -- The byte of a loosened job, and that of any other.
@@ -9,5 +9,5 @@ abbrev pub held : ℕ
 held = 1
 
 -- The jobs whose bytes say that they are loosened. Beyond the bytes there is none.
-abbrev pub marked : List ℕ → ℕ → Bool
-marked bytes v = slice_index_or bytes v held == loose
+abbrev pub is_loose : List ℕ → ℕ → Bool
+is_loose bytes v = slice_index_or bytes v held == loose

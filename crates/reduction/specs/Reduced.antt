@@ -1,19 +1,20 @@
 -- What a reduction leaves.
 use Rattle.std.specs.Prelude.{◌≡◌, ℕ, ◌<◌, cond, ◌↔◌, List, length, drop, Ok, Err, Result, nat_lt, slice_index_or}
 use Rattle.rows.specs.Waiting.{Waiting}
-use Rattle.tables.specs.Closed.{Loosened}
+use Rattle.tables.specs.Closed.{Closed, Loosened}
 use Rattle.tables.specs.Grants.{CanBeFreed}
 use Rattle.reduction.specs.declared.fault.ReductionFault.{ReductionFault}
 use Rattle.reduction.specs.declared.fault.ReductionFault.TheVariants.{TooShort}
-use Rattle.reduction.specs.Marks.{loose, held}
+use Rattle.reduction.specs.Marks.{loose, held, is_loose}
 
 -- It is refused exactly where there are fewer bytes than jobs.
-abbrev pub answer : (jobs bytes : ℕ) → Result (Unit {0}) ReductionFault
-answer jobs bytes = cond (nat_lt bytes jobs) (Err TooShort) (Ok tt)
+abbrev pub refused_or_done : (jobs bytes : ℕ) → Result (Unit {0}) ReductionFault
+refused_or_done jobs bytes = cond (nat_lt bytes jobs) (Err TooShort) (Ok tt)
 
 -- Each job's byte is decided: 0 exactly if every closed set holds the job, and 1 exactly if no list of lawful grants,
--- the empty one counted, makes it active. The bytes behind are as before.
+-- the empty one counted, makes it active. The jobs of byte 0 are a closed set, and so the smallest. The bytes behind are as before.
 pub record Reduced (rows : List Waiting) (before after : List ℕ) : Type 0 where
   pub loosened : (v : ℕ) → v < length rows → (slice_index_or after v held ≡ loose) ↔ Loosened rows v
+  pub closed : Closed rows (is_loose after)
   pub stuck : (v : ℕ) → v < length rows → (slice_index_or after v loose ≡ held) ↔ (CanBeFreed rows v → ⊥)
   pub rest : drop (length rows) after ≡ drop (length rows) before

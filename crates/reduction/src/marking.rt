@@ -4,8 +4,8 @@ ghost use Rattle.containers.specs.Held.{vacant};
 ghost use Rattle.rows.specs.Waiting.{at};
 ghost use Rattle.tables.specs.Closed.{count};
 ghost use Rattle.tables.specs.Tables.{jobs_max};
-ghost use Rattle.reduction.specs.Marks.{marked};
-ghost use Rattle.reduction.specs.Work.{Settled, CanBeMarked, steps_left, at_hand, with_mark, next_is};
+ghost use Rattle.reduction.specs.Marks.{is_loose};
+ghost use Rattle.reduction.specs.Work.{Settled, CanBeLoosened, steps_left, at_hand, with_loose, next_is};
 
 use crate::marks::{HELD, LOOSE};
 use containers::{Container, Queue};
@@ -24,13 +24,13 @@ pub(crate) struct Marking<'a, 'q, T: Table> {
 impl<'a, 'q, T: Table> Model for Marking<'a, 'q, T> {
     ghost use Rattle.std.specs.Prelude.{◌≡◌};
     ghost use Rattle.tables.specs.Tables.{jobs_max};
-    ghost use Rattle.reduction.specs.Work.{Work, Marks};
+    ghost use Rattle.reduction.specs.Work.{Work, SoundMarks};
 
     ghost Value = { Work };
 
     ghost view = { λ m. record { rows = T.Table.rows m.table.now; marks = m.marks; queue = m.queue.items } };
 
-    ghost invariant = { λ m. Marks (record { rows = T.Table.rows m.table.now; marks = m.marks; queue = m.queue.items })
+    ghost invariant = { λ m. SoundMarks (record { rows = T.Table.rows m.table.now; marks = m.marks; queue = m.queue.items })
         × (m.queue.capacity ≡ jobs_max) };
 }
 
@@ -83,7 +83,7 @@ impl<'a, 'q, T: Table> Marking<'a, 'q, T> {
 
     // How many targets of a job are marked.
     fn loose_targets(&self, job: usize) -> usize
-        ensures { result ≡ count (marked self.now.marks) (at self.now.rows job).targets }
+        ensures { result ≡ count (is_loose self.now.marks) (at self.now.rows job).targets }
     {
         self.table
             .targets(job)
@@ -93,15 +93,15 @@ impl<'a, 'q, T: Table> Marking<'a, 'q, T> {
 
     // Whether a job is marked.
     fn is_loose(&self, job: u8) -> bool
-        ensures { result ≡ marked self.now.marks job }
+        ensures { result ≡ is_loose self.now.marks job }
     {
         self.marks[job as usize] == LOOSE
     }
 
     // Marks a job that is not marked yet, and queues it.
     fn loosen(&mut self, job: usize)
-        requires { CanBeMarked self.old job }
-        ensures { self.new ≡ with_mark self.old job }
+        requires { CanBeLoosened self.old job }
+        ensures { self.new ≡ with_loose self.old job }
     {
         self.marks[job] = LOOSE;
         self.queue.put(job as u8).unwrap();

@@ -15,7 +15,8 @@ abbrev pub rising : (low : ℕ) → List ℕ → Bool
 rising low [] = true
 rising low (t ∷ ts) = nat_le low t && rising (t + 1) ts
 
--- Whether a target is below n, is not the job itself, and is not below `low`.
+-- Of one target: it is below n, is not the job itself, and is above the one before it; `low` is one more than that one, and 0 for the
+-- first.
 abbrev pub target_fits : (n job low t : ℕ) → Bool
 target_fits n job low t = nat_lt t n && (not (t == job) && nat_le low t)
 

@@ -36,11 +36,12 @@ pub record StoredWhole (r : Row) (p : PlainRow) : Type 0 where
 abbrev pub plain_fits : (n job : ℕ) → PlainRow → Bool
 plain_fits n job p = nat_le p.count targets_max && row_fits n job (waiting p)
 
--- What a request says of a row that is made, or why none is.
+-- The row that was made, by what it says; or why none was.
 abbrev pub seen : Result Row RowFault → Result Waiting RowFault
 seen (Ok r) = Ok (waiting_of r)
 seen (Err e) = Err e
 
+-- A wrong target at a place, or the row.
 abbrev pub placed : Option ℕ → Waiting → Result Waiting RowFault
 placed None w = Ok w
 placed (Some place) w = Err (WrongTarget place)

@@ -1,5 +1,6 @@
 -- What one job waits for, and the rows of all jobs.
-use Rattle.std.specs.Prelude.{ℕ, zero, suc, Bool, false, ◌||◌, List, [], ◌∷◌, Some, None, Option, ◌==◌, slice_index_or}
+use Rattle.std.specs.Prelude.{ℕ, Bool, List, [], Option, ◌==◌, slice_get, slice_index_or}
+use Rattle.std.specs.List.{list_any}
 
 -- A row: how many of its targets a job still needs, and the targets, jobs that it waits for.
 pub record Waiting : Type 0 where
@@ -14,13 +15,14 @@ idle = record { need = 0; targets = [] }
 abbrev pub at : List Waiting → ℕ → Waiting
 at rows job = slice_index_or rows job idle
 
+-- A job is active when its need is 0; every other job is blocked.
+abbrev pub is_active : List Waiting → ℕ → Bool
+is_active rows job = (at rows job).need == 0
+
 -- Whether a job is among the targets.
 abbrev pub among : ℕ → List ℕ → Bool
-among u [] = false
-among u (t ∷ ts) = t == u || among u ts
+among u ts = list_any (λ t. t == u) ts
 
 -- The target at a place, counted from 0; past the last, none.
 abbrev pub target_at : List ℕ → ℕ → Option ℕ
-target_at [] place = None
-target_at (t ∷ ts) zero = Some t
-target_at (t ∷ ts) (suc place) = target_at ts place
+target_at ts place = slice_get ts place

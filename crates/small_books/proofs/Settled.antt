@@ -8,7 +8,7 @@ use Rattle.tables.specs.Closed.{count}
 use Rattle.tables.specs.Tables.{waiters}
 use Rattle.tables.proofs.Laws.{who_waits_is_a_job}
 use Rattle.exchange.specs.Records.{blank}
-use Rattle.exchange.specs.Runs.{State, Exchange}
+use Rattle.exchange.specs.Runs.{RunState, Exchange}
 use Rattle.exchange.proofs.Bounded.{exchange_keeps}
 use Rattle.exchange.proofs.Entries.{Spreading, Freeing}
 use Rattle.exchange.proofs.Exact.{twice_both, exact_count}
@@ -76,7 +76,7 @@ module _ (rows : List Waiting) (ok : Sound rows) (initiator : ℕ) (l : initiato
         blocked_holds : (s r : Bool) (n c : ℕ) → 0 < n → n ≤ c → s || cond (eqb n 0) r (ltb c n) ≡ true → s ≡ true
         blocked_holds s r n c p le h = grind (arith, nat_tests)
 
-    module _ (order : List Message) (s : State) (x : Exchange rows initiator order s) (none : s.waiting ≡ []) where
+    module _ (order : List Message) (s : RunState) (x : Exchange rows initiator order s) (none : s.waiting ≡ []) where
       v : Kept rows initiator (length order) s
       v = exchange_keeps rows ok initiator l order s x
 

@@ -6,29 +6,29 @@ use Rattle.tables.specs.Tables.{lawful}
 use Rattle.exchange.proofs.Ends.{a_run_ends}
 use Rattle.exchange.proofs.Exact.{twice_both}
 use Rattle.exchange.proofs.Sound.{lawful_is_sound}
-use Rattle.small_books.specs.Books.{Asked, table}
+use Rattle.small_books.specs.Books.{RunLine, table}
 use Rattle.small_books.specs.Facts.{Tells, Holds, SmallBooksHold}
 use Rattle.small_books.proofs.Rounds.{reached, freed, spread_out, freed_out}
 use Rattle.small_books.proofs.Settled.{settled_tells}
 
 -- The jobs that a run notifies, and those that it frees: as many rounds as there are jobs suffice.
-abbrev R : Asked → ℕ → Bool
+abbrev R : RunLine → ℕ → Bool
 R a = reached a.rows a.initiator (length a.rows)
 
-abbrev S : Asked → ℕ → Bool
+abbrev S : RunLine → ℕ → Bool
 S a = freed a.rows (R a) (length a.rows)
 
 -- Rows and initiator are sound; the rounds have found both sets; and these give the verdict and the number of deliveries.
-abbrev sound : Asked → Bool
+abbrev sound : RunLine → Bool
 sound a = lawful a.rows && ltb a.initiator (length a.rows)
 
-abbrev found : Asked → Bool
+abbrev found : RunLine → Bool
 found a = R a a.initiator && (spread_out a.rows (R a) && freed_out a.rows (R a) (S a))
 
-abbrev right : Asked → Bool
+abbrev right : RunLine → Bool
 right a = eqb (twice_both a.rows (R a) (S a)) a.deliveries && cond (S a a.initiator) a.free (not a.free)
 
-abbrev computes : Asked → Bool
+abbrev computes : RunLine → Bool
 computes a = sound a && (found a && right a)
 
 same_test : (a b : Bool) → cond a b (not b) ≡ true → a ≡ b
@@ -37,7 +37,7 @@ same_test true false h = absurd (true≢false (sym h))
 same_test false true h = absurd (true≢false (sym h))
 same_test false false h = refl
 
-computed_is_told : (a : Asked) → computes a ≡ true → Tells a
+computed_is_told : (a : RunLine) → computes a ≡ true → Tells a
 computed_is_told a h =
     let parts = and_parts (sound a) (found a && right a) h in
     let ground = and_parts (lawful a.rows) (ltb a.initiator (length a.rows)) parts.0 in

@@ -32,14 +32,14 @@ abbrev pub b7 : List Waiting
 b7 = needs 3 (1 ∷ 2 ∷ 3 ∷ []) ∷ needs 1 (2 ∷ []) ∷ idle ∷ needs 1 (0 ∷ []) ∷ []
 
 -- A run of the exchange from an initiator: whether it ends up free, and after how many deliveries.
-pub record Asked : Type 0 where
+pub record RunLine : Type 0 where
   pub rows : List Waiting
   pub initiator : ℕ
   pub free : Bool
   pub deliveries : ℕ
 
 -- A call on a book: its answer, and the rows after it.
-pub record Called : Type 0 where
+pub record CallLine : Type 0 where
   pub before : State Waiting
   pub call : Call
   pub answer : Answer
@@ -47,8 +47,8 @@ pub record Called : Type 0 where
 
 -- A line of the table: a run, or a call.
 pub data Line : Type 0 where
-  of_run : Asked → Line
-  of_call : Called → Line
+  of_run : RunLine → Line
+  of_call : CallLine → Line
 
 abbrev pub asked : List Waiting → (initiator : ℕ) → (free : Bool) → (deliveries : ℕ) → Line
 asked rows initiator free deliveries = of_run (record { rows = rows; initiator = initiator; free = free; deliveries = deliveries })
@@ -63,6 +63,7 @@ b2_book = record { rows = b2; groups = []; mark = 7; room = 1 }
 abbrev pub b2_request : Call
 b2_request = edits (requests 1 1 (0 ∷ []))
 
+-- What is to come of them. That 16 targets are taken and 17 are not, and that a ninth group is not opened, holds of any book.
 abbrev pub table : List Line
 table =
     asked one_job 0 true 0

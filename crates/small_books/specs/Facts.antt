@@ -3,19 +3,19 @@ use Rattle.std.specs.Prelude.{◌≡◌, List, [], length, slice_index_or}
 use Rattle.std.specs.List.{AllByRecursion}
 use Rattle.carriers.specs.declared.message.Message.{Message}
 use Rattle.exchange.specs.Records.{blank}
-use Rattle.exchange.specs.Runs.{State, Exchange}
+use Rattle.exchange.specs.Runs.{RunState, Exchange}
 use Rattle.book.specs.Answers.{says, after}
-use Rattle.small_books.specs.Books.{Asked, Called, Line, of_run, of_call, table}
+use Rattle.small_books.specs.Books.{RunLine, CallLine, Line, of_run, of_call, table}
 
 -- Every run that is over has had so many deliveries, in whatever order they came, and leaves the initiator free or not, as told;
 -- and there is such a run.
-pub record Tells (a : Asked) : Type 0 where
-  pub every : (order : List Message) (s : State) → Exchange a.rows a.initiator order s → s.waiting ≡ []
+pub record Tells (a : RunLine) : Type 0 where
+  pub every : (order : List Message) (s : RunState) → Exchange a.rows a.initiator order s → s.waiting ≡ []
       → (length order ≡ a.deliveries) × ((slice_index_or s.records a.initiator blank).free ≡ a.free)
-  pub some : (order : List Message) × (s : State) × Exchange a.rows a.initiator order s × (s.waiting ≡ [])
+  pub some : (order : List Message) × (s : RunState) × Exchange a.rows a.initiator order s × (s.waiting ≡ [])
 
 -- The book answers the call, and has these rows after it.
-pub record Answers (c : Called) : Type 0 where
+pub record Answers (c : CallLine) : Type 0 where
   pub answer : says c.before c.call ≡ c.answer
   pub rows : (after c.before c.call).rows ≡ c.rows
 

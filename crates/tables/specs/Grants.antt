@@ -9,7 +9,7 @@ pub record Grant : Type 0 where
   pub granter : ℕ
   pub waiter : ℕ
 
--- A grant is lawful when the granter is an active job and the waiter waits for it.
+-- The grant rule allows a grant when the granter is an active job and the waiter waits for it.
 pub record Allowed (rows : List Waiting) (g : Grant) : Type 0 where
   pub job : g.granter < length rows
   pub active : (at rows g.granter).need ≡ 0

@@ -1,5 +1,6 @@
 -- What a table tells of its rows.
-use Rattle.std.specs.Prelude.{ℕ, ◌+◌, ◌*◌, Bool, true, cond, ◌&&◌, List, [], ◌∷◌, length, Some, None, sum_by, Option, nat_le}
+use Rattle.std.specs.Prelude.{ℕ, ◌+◌, ◌*◌, Bool, true, cond, ◌&&◌, List, [], ◌∷◌, length, sum_by, Option, nat_le}
+use Rattle.std.specs.List.{enumerate_from, find, list_all}
 use Rattle.rows.specs.Waiting.{Waiting, among}
 use Rattle.rows.specs.Law.{targets_max, row_fits}
 
@@ -13,8 +14,7 @@ waits_max = jobs_max * targets_max
 
 -- Every row obeys the row law among n jobs; `job` is the job of the first.
 abbrev pub rows_fit : (n job : ℕ) → List Waiting → Bool
-rows_fit n job [] = true
-rows_fit n job (w ∷ ws) = row_fits n job w && rows_fit n (job + 1) ws
+rows_fit n job rows = list_all (λ r. row_fits n r.0 r.1) (enumerate_from job rows)
 
 -- The rows of a table obey the row law.
 abbrev pub lawful : List Waiting → Bool
@@ -35,5 +35,4 @@ waiters rows u = waiters_from 0 u rows
 
 -- The first number of a list that is not below `from`.
 abbrev pub first_from : (from : ℕ) → List ℕ → Option ℕ
-first_from from [] = None
-first_from from (x ∷ xs) = cond (nat_le from x) (Some x) (first_from from xs)
+first_from from xs = find (nat_le from) xs

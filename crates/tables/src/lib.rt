@@ -6,5 +6,5 @@ mod table;
 mod walks;
 
 pub use freeing::loosened_jobs_can_be_freed;
-pub use table::{JOBS_MAX, Table, TwoWayTable};
+pub use table::{JOBS_MAX, Table, TwoWayTable, WAITS_MAX};
 pub use walks::{TargetsOf, WaitersOf};

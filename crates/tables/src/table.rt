@@ -5,9 +5,13 @@ ghost use Rattle.tables.specs.Tables.{jobs_max, lawful, waiters, first_from};
 ghost use Rattle.tables.specs.Walks.{targets_left, waiters_left};
 
 use crate::walks::{TargetsOf, WaitersOf};
+use rows::TARGETS_MAX;
 
 // How many jobs a table has at most.
 pub const JOBS_MAX: usize = 256;
+
+// How many waits a table has at most.
+pub const WAITS_MAX: usize = JOBS_MAX * TARGETS_MAX;
 
 // Jobs, and what each waits for. Beyond the last job every row is idle, and past the last place there is none.
 pub trait Table {

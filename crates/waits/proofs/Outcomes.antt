@@ -3,12 +3,13 @@ use Rattle.std.proofs.Common.{◌≡◌, List, ℕ, replicate, Result, subst}
 use Rattle.rows.specs.Waiting.{Waiting, idle}
 use Rattle.groups.specs.History.{begun}
 use Rattle.groups.specs.State.{State, fresh}
-use Rattle.carriers.specs.Orders.{new_carrier}
+use Rattle.carriers.specs.Parts.{new_carrier}
 use Rattle.carriers.specs.Meaning.{Carried}
 use Rattle.exchange.specs.Records.{blank}
 use Rattle.exchange.specs.declared.record.RunRecord.{RunRecord}
 use Rattle.book.specs.History.{terms, Shows}
-use Rattle.book.specs.ScriptRuns.{Ran, lent}
+use Rattle.book.specs.ScriptRuns.{RanScript}
+use Rattle.book.specs.Lent.{lent}
 use Rattle.book.specs.Scripts.{Scripted}
 use Rattle.book.specs.Subjects.{of_history}
 use Rattle.book.specs.declared.script.fault.StoppedScript.{StoppedScript}
@@ -16,7 +17,7 @@ use Rattle.book.specs.declared.script.fault.FinishedScript.{FinishedScript}
 use Rattle.waits.specs.Outcome.{ComesOut}
 
 pub comes_out : {s s' : State Waiting} {was records : List RunRecord} {before carrier : Carried} {script bytes bytes' : List ℕ} {a : Result FinishedScript StoppedScript}
-    → s ≡ fresh 256 idle 7 1024 → Shows s begun → was ≡ replicate 256 blank → before ≡ new_carrier 8192 → Ran s (lent was before bytes) script a s' (lent records carrier bytes')
+    → s ≡ fresh 256 idle 7 1024 → Shows s begun → was ≡ replicate 256 blank → before ≡ new_carrier 8192 → RanScript s (lent was before bytes) script a s' (lent records carrier bytes')
     → ComesOut script bytes a bytes'
 comes_out {s} {s'} {was} {records} {before} {carrier} {script} {bytes} {bytes'} {a} new shows blanks empty k =
     let r = k.shows begun shows in

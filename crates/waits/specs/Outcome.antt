@@ -1,6 +1,6 @@
 -- What comes of a script that the program runs.
-use Rattle.std.specs.Prelude.{ℕ, List, replicate, Result}
-use Rattle.carriers.specs.Orders.{new_carrier}
+use Rattle.std.specs.Prelude.{ℕ, ◌*◌, List, replicate, Result}
+use Rattle.carriers.specs.Parts.{new_carrier}
 use Rattle.exchange.specs.Records.{blank}
 use Rattle.exchange.specs.declared.record.RunRecord.{RunRecord}
 use Rattle.carriers.specs.Meaning.{Carried}
@@ -8,19 +8,33 @@ use Rattle.groups.specs.History.{History, begun}
 use Rattle.book.specs.Calls.{Edit}
 use Rattle.book.specs.History.{Terms}
 use Rattle.book.specs.Scripts.{Scripted}
-use Rattle.book.specs.ScriptRuns.{lent}
+use Rattle.book.specs.Lent.{lent}
 use Rattle.book.specs.Subjects.{of_history}
 use Rattle.book.specs.declared.script.fault.StoppedScript.{StoppedScript}
 use Rattle.book.specs.declared.script.fault.FinishedScript.{FinishedScript}
+use Rattle.tables.specs.Tables.{jobs_max, waits_max}
+use Rattle.groups.specs.Limits.{trail_max}
+use Rattle.exchange.specs.Bounds.{capacity_per_wait}
+use Rattle.book.specs.Creation.{new_terms}
 
--- The book has 256 jobs and a trail of 1,024 records.
+-- The sizes of the program's book, of its trail and of its carrier.
+abbrev pub program_jobs : ℕ
+program_jobs = jobs_max
+
+abbrev pub program_trail : ℕ
+program_trail = trail_max
+
+abbrev pub program_queue : ℕ
+program_queue = capacity_per_wait * waits_max
+
+-- A new book. Any mark would do, since a script hands out no ticket.
 abbrev pub program_terms : Terms
-program_terms = record { jobs = 256; mark = 7; room = 1024 }
+program_terms = new_terms program_jobs 7 program_trail
 
 -- The answer, and the answer bytes, are those that the rules give a script on the history of a new book, with a blank record for each
--- job, and a carrier of capacity 8,192 that is empty.
+-- job, and an empty carrier. That this is a queue, and what is printed of the answer, is not told.
 pub record ComesOut (script bytes : List ℕ) (answer : Result FinishedScript StoppedScript) (bytes' : List ℕ) : Type 0 where
   pub history : History Edit
   pub records : List RunRecord
   pub carrier : Carried
-  pub scripted : Scripted (of_history program_terms) begun (lent (replicate 256 blank) (new_carrier 8192) bytes) script answer history (lent records carrier bytes')
+  pub scripted : Scripted (of_history program_terms) begun (lent (replicate program_jobs blank) (new_carrier program_queue) bytes) script answer history (lent records carrier bytes')

@@ -3,7 +3,7 @@ ghost use Rattle.std.specs.Prelude.{◌≡◌, ◌≤◌, length};
 ghost use Rattle.book.specs.ScriptRuns.{script_written};
 ghost use Rattle.waits.specs.Outcome.{ComesOut};
 
-use book::{Book, FinishedScript, JOBS_MAX, Old, PlainRow, StoppedScript, TARGETS_MAX, TRAIL_MAX};
+use book::{Book, FinishedScript, JOBS_MAX, Old, PlainRow, StoppedScript, TRAIL_MAX, WAITS_MAX};
 use carriers::{Kind, Message, QueueCarrier, Wait};
 use detection::{CAPACITY_PER_WAIT, RunRecord};
 
@@ -13,7 +13,7 @@ const PROGRAM_JOBS: usize = JOBS_MAX;
 const PROGRAM_TRAIL: usize = TRAIL_MAX;
 
 // Room for the messages of a detection, however many waits there are.
-const PROGRAM_QUEUE: usize = CAPACITY_PER_WAIT * JOBS_MAX * TARGETS_MAX;
+const PROGRAM_QUEUE: usize = CAPACITY_PER_WAIT * WAITS_MAX;
 
 // Enough for the longest script: it has a detection for every two bytes at most, and each writes four.
 pub const PROGRAM_ANSWERS: usize = 16_384;

@@ -1,9 +1,9 @@
 // Living a whole life.
 ghost use Rattle.std.specs.Prelude.{◌≡◌, ◌≤◌, length, take, drop, is_err, nat_lt, IfOk, IfErr};
-ghost use Rattle.book.specs.Law.{LawOfLives};
+ghost use Rattle.book.specs.Law.{LawOfLives, GrantsAreAllowed};
 ghost use Rattle.book.specs.Moments.{Lived, written_by};
 ghost use Rattle.book.specs.Performing.{Performed};
-ghost use Rattle.book.specs.ScriptRuns.{lent};
+ghost use Rattle.book.specs.Lent.{lent};
 
 use crate::life::call::{Answer, Call};
 use crate::life::moment::Moment;
@@ -63,6 +63,7 @@ pub fn live<C: Carrier>(
     moments: &mut [Moment],
 ) -> Result<Snapshot, TooFewMoments>
     ensures law { LawOfLives }
+    ensures grants { GrantsAreAllowed }
     ensures refused { is_err result ≡ nat_lt (length moments.old) (length calls.now) }
     ensures lived { IfOk result (λ first. Lived creation.entry.jobs creation.entry.mark (length creation.entry.trail.now) calls.now first (take (length calls.now) moments.new) (lent records.old (C.Carrier.carried carrier.old) answers.old) (lent records.new (C.Carrier.carried carrier.new) answers.new)) }
     ensures rest { drop (length calls.now) moments.new ≡ drop (length calls.now) moments.old }

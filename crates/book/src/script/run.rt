@@ -1,7 +1,8 @@
 // Running a script.
 ghost use Rattle.std.specs.Prelude.{◌≡◌, ◌≤◌, length};
 ghost use Rattle.book.specs.Scripts.{cancel_groups as cancelling};
-ghost use Rattle.book.specs.ScriptRuns.{Ran, lent, script_written};
+ghost use Rattle.book.specs.ScriptRuns.{RanScript, script_written};
+ghost use Rattle.book.specs.Lent.{lent};
 ghost use Rattle.book.specs.Subjects.{of_book};
 
 use crate::script::fault::{FinishedScript, ScriptFault, StoppedScript};
@@ -24,7 +25,7 @@ impl<'a> Book<'a> {
         carrier: &mut C,
         answers: &mut [u8],
     ) -> Result<FinishedScript, StoppedScript>
-        ensures ran { Ran self.old (lent records.old (C.Carrier.carried carrier.old) answers.old) script.now result self.new (lent records.new (C.Carrier.carried carrier.new) answers.new) }
+        ensures ran { RanScript self.old (lent records.old (C.Carrier.carried carrier.old) answers.old) script.now result self.new (lent records.new (C.Carrier.carried carrier.new) answers.new) }
         ensures written { script_written result ≤ length answers.new }
     {
         if script.len() > SCRIPT_MAX {

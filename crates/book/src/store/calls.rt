@@ -1,15 +1,14 @@
 // Creation, and the five calls.
 ghost use Rattle.std.specs.Prelude.{◌≡◌, ◌<◌, ◌≤◌, true, length, if◌then◌else◌};
-ghost use Rattle.rows.specs.Waiting.{idle};
 ghost use Rattle.rows.specs.Law.{row_fits};
 ghost use Rattle.rows.specs.Views.{waiting_of};
-ghost use Rattle.groups.specs.State.{face, full, fresh, written};
+ghost use Rattle.groups.specs.State.{face, full, written};
 ghost use Rattle.groups.specs.History.{begun};
 ghost use Rattle.book.specs.declared.fault.BookFault.TheVariants.{TrailFull};
 ghost use Rattle.book.specs.Calls.{edits, requests, grants, opens, keeps, cancels};
-ghost use Rattle.book.specs.Answers.{done, stop};
+ghost use Rattle.book.specs.Answers.{done, refusal};
 ghost use Rattle.book.specs.History.{Shows, Called};
-ghost use Rattle.book.specs.Limits.{created};
+ghost use Rattle.book.specs.Creation.{created, new_book};
 ghost use Rattle.tables.specs.Tables.{jobs_max};
 ghost use Rattle.book.specs.Views.{told, told_opening, told_ending};
 
@@ -31,7 +30,7 @@ impl<'a> Book<'a> {
     // A book in which every job is active. Its tickets will carry the mark, and what its groups would undo lies in the
     // lent memory. Where more than 256 jobs are asked for, it has none.
     pub fn new(jobs: usize, mark: u16, memory: &'a mut [Old<PlainRow>]) -> Book<'a>
-        ensures value { result ≡ fresh (created jobs) idle mark (length memory.old) }
+        ensures value { result ≡ new_book jobs mark (length memory.old) }
         ensures shows { Shows result begun }
     {
         Book {
@@ -78,7 +77,7 @@ impl<'a> Book<'a> {
     fn write(&mut self, job: usize, row: Row) -> Result<(), BookFault>
         requires job { job < length self.old.rows }
         requires lawful { row_fits (length self.old.rows) job (waiting_of row) ≡ true }
-        ensures value { told result ≡ (if full self.old.room (face self.old) then stop TrailFull else done) }
+        ensures value { told result ≡ (if full self.old.room (face self.old) then refusal TrailFull else done) }
         ensures after { self.new ≡ (if full self.old.room (face self.old) then self.old else written self.old job (waiting_of row)) }
     {
         Ok(self.groups.write(job as u8, row.into())?)

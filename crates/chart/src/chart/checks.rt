@@ -3,7 +3,7 @@ ghost use Rattle.std.specs.Prelude.{◌≡◌, IfOk, length};
 ghost use Rattle.std.specs.Simd.{first_chunks};
 ghost use Rattle.chart.specs.Layout.{row_bytes};
 ghost use Rattle.chart.specs.Check.{checked, chart_rows};
-ghost use Rattle.chart.specs.Views.{rows_of, counted};
+ghost use Rattle.chart.specs.Views.{rows_of, rows_counted};
 
 use crate::bytes::{CHART_MAX, ROW_BYTES, RowBytes, first_wrong_row};
 use crate::chart::Chart;
@@ -11,7 +11,7 @@ use crate::fault::ChartFault;
 
 // The rows that lie in the bytes, or the first reason why the bytes are no chart.
 fn checked_rows(bytes: &[u8]) -> Result<&[RowBytes], ChartFault>
-    ensures counted { counted result ≡ checked bytes.now }
+    ensures counted { rows_counted result ≡ checked bytes.now }
     ensures rows { IfOk result (λ rows. rows.now ≡ first_chunks row_bytes (length rows.now) bytes.now) }
 {
     let length = bytes.len();

@@ -1,8 +1,8 @@
 // Writing, opening, keeping and cancelling.
-ghost use Rattle.std.specs.Prelude.{◌≡◌, ◌+◌, ◌≤◌, not, length, take, drop, is_ok, if◌then◌else◌, Some, None, Ok, Err, nat_lt, slice_index_or};
+ghost use Rattle.std.specs.Prelude.{◌≡◌, ◌+◌, ◌≤◌, not, length, take, drop, is_ok, if◌then◌else◌, Some, None, Ok, Err, slice_index_or};
 ghost use Rattle.containers.specs.Held.{holding};
 ghost use Rattle.groups.specs.Limits.{row_count, depth_max};
-ghost use Rattle.groups.specs.State.{face, full, fresh, written, opened, kept, cancelled, unwound, old_row, noting};
+ghost use Rattle.groups.specs.State.{face, full, can_open, fresh, written, opened, kept, cancelled, unwound, old_row, noting};
 ghost use Rattle.groups.specs.Tickets.{fits, ended};
 
 use crate::store::{Groups, Old, ROWS, Returned, TRAIL_MAX, Ticket, TrailFull};
@@ -76,8 +76,8 @@ impl<'a, P: Copy> Groups<'a, P> {
 
     // Opens a group inside the others; none, and nothing changed, if eight are open.
     pub fn open(&mut self) -> Option<Ticket>
-        ensures value { result ≡ (if nat_lt (face self.old).depth depth_max then Some (record { mark = self.old.mark; depth = (face self.old).depth + 1 }) else None) }
-        ensures after { self.new ≡ (if nat_lt (face self.old).depth depth_max then opened self.old else self.old) }
+        ensures value { result ≡ (if can_open (face self.old) then Some (record { mark = self.old.mark; depth = (face self.old).depth + 1 }) else None) }
+        ensures after { self.new ≡ (if can_open (face self.old) then opened self.old else self.old) }
     {
         if self.starts.is_full() {
             return None;

@@ -1,7 +1,6 @@
 // Opening and ending without a ticket, for whatever owns the groups. It decides who else may: a book asks its clients for tickets.
-ghost use Rattle.std.specs.Prelude.{◌≡◌, ◌+◌, length, if◌then◌else◌, Some, None, Ok, Err, nat_lt};
-ghost use Rattle.groups.specs.Limits.{depth_max};
-ghost use Rattle.groups.specs.State.{face, innermost, opened};
+ghost use Rattle.std.specs.Prelude.{◌≡◌, ◌+◌, length, if◌then◌else◌, Some, None, Ok, Err};
+ghost use Rattle.groups.specs.State.{face, can_open, innermost, opened};
 ghost use Rattle.groups.specs.Tickets.{ended_as};
 
 use crate::store::{Ending, Groups, Stub, Ticket};
@@ -19,8 +18,8 @@ impl<'a, P: Copy> Groups<'a, P> {
 
     // Opens a group inside the others, and answers what its ticket would tell; none, and nothing changed, if eight are open.
     pub fn open_by_owner(&mut self) -> Option<Stub>
-        ensures value { result ≡ (if nat_lt (face self.old).depth depth_max then Some (record { mark = self.old.mark; depth = (face self.old).depth + 1 }) else None) }
-        ensures after { self.new ≡ (if nat_lt (face self.old).depth depth_max then opened self.old else self.old) }
+        ensures value { result ≡ (if can_open (face self.old) then Some (record { mark = self.old.mark; depth = (face self.old).depth + 1 }) else None) }
+        ensures after { self.new ≡ (if can_open (face self.old) then opened self.old else self.old) }
     {
         let Ticket { mark, depth } = self.open()?;
         Some(Stub { mark, depth })

@@ -7,4 +7,4 @@ returns-clause-after g c =
     let rows = g.T.Table.rows c.args.table.now in
     let bytes = c.args.bytes.now in
     let marks = c.marks_of-marks.result in
-    rw (c.copy_from_slice.ensures.after, c.jobs-jobs.ensures.value) (reduced rows marks bytes c.marks_of-marks.ensures loosened_can_be_freed)
+    rw (c.copy_from_slice.ensures.after, c.jobs-jobs.ensures.value) (reduced rows marks bytes c.jobs-jobs.ensures.lawful c.marks_of-marks.ensures loosened_can_be_freed)

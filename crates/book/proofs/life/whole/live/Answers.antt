@@ -3,6 +3,7 @@ use Rattle.std.proofs.lemmas.List.{take_more, take_more_set, take_all, take_rest
 use Rattle.book.specs.declared.life.call.Call.TheVariants.{Open}
 use Rattle.book.specs.Subjects.{of_book, view_of}
 use Rattle.book.proofs.Alive.{alive_first, alive_next, alive_lived, behind_all}
+use Rattle.book.proofs.Granting.{grants_are_allowed}
 use Rattle.book.proofs.Lives.{law_of_lives}
 use Rattle.book.proofs.life.whole.live.Goals as goal
 
@@ -27,6 +28,12 @@ loop-place-preserved g c =
 
 pub returns-clause-law : goal.returns-clause-law
 returns-clause-law g c = law_of_lives
+
+pub returns-then-moments-calls-clause-grants : goal.returns-then-moments-calls-clause-grants
+returns-then-moments-calls-clause-grants g c = grants_are_allowed
+
+pub returns-clause-grants : goal.returns-clause-grants
+returns-clause-grants g c = grants_are_allowed
 
 pub returns-clause-lived : goal.returns-clause-lived
 returns-clause-lived g c =

@@ -11,15 +11,15 @@ pub returns-in_err-found-clause-done : goal.returns-in_err-found-clause-done
 returns-in_err-found-clause-done g c =
     let e = c.in_err-found.ensures in
     fault_stops (detecting c.args.job) _ _ c.from_residual.result _ c.from_residual.ensures.1
-    (not_detected (omega (arith, c.requires.written, c.if-answers-tally-lt-DETECTION_BYTES.false)) (record { stopped = e.stopped; left = (refl, refl) }))
-    (rw (e.after.0, e.after.1) refl)
+    (not_detected (omega (arith, c.requires.written, c.if-answers-tally-lt-DETECTION_BYTES.false)) (record { stopped = e.detects.stopped; left = (refl, refl) }))
+    (rw (e.detects.left.0, e.detects.left.1) refl)
 
 pub answer_bytes-requires : goal.answer_bytes-requires
-answer_bytes-requires g c = c.in_ok-found.ensures.after.narrow
+answer_bytes-requires g c = c.in_ok-found.ensures.detects.left.narrow
 
 pub returns-clause-done : goal.returns-clause-done
 returns-clause-done g c =
     let e = c.in_ok-found.ensures in
     let fits : c.args.tally.now.written + 4 ≤ length c.args.answers.now = omega (arith, c.requires.written, c.if-answers-tally-lt-DETECTION_BYTES.false) in
     rw (c.copy_from_slice.ensures.after, c.answer_bytes.ensures, bytes_behind c.args.tally.now.written c.args.answers.now)
-    (answered fits (record { stopped = e.stopped; left = e.after }))
+    (answered fits e.detects)

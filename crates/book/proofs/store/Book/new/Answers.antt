@@ -4,7 +4,7 @@ use Rattle.rows.specs.Views.{waiting}
 use Rattle.groups.specs.State.{fresh}
 use Rattle.groups.specs.Views.{view}
 use Rattle.groups.proofs.Viewed.{view_fresh}
-use Rattle.book.specs.Limits.{created}
+use Rattle.book.specs.Creation.{created}
 use Rattle.book.proofs.Following.{fresh_shows}
 use Rattle.book.proofs.Lawful.{fresh_lawful}
 use Rattle.book.proofs.store.Book.new.Goals as goal

@@ -1,6 +1,6 @@
 use Rattle.book.specs.Events.{detects, scripts}
 use Rattle.book.specs.Moments.{opening, ending, detecting, editing, running}
-use Rattle.book.proofs.Lives.{call_does, detects_meant}
+use Rattle.book.proofs.Lives.{call_does}
 use Rattle.book.proofs.store.Book.perform.Goals as goal
 
 pub returns-in-Open-clause-performed : goal.returns-in-Open-clause-performed
@@ -10,13 +10,7 @@ pub returns-in-End-clause-performed : goal.returns-in-End-clause-performed
 returns-in-End-clause-performed g c = rw c.in-End.is (record { event = _; happens = ending; does = call_does c.end_by_owner.ensures })
 
 pub returns-in-Detect-clause-performed : goal.returns-in-Detect-clause-performed
-returns-in-Detect-clause-performed g c =
-    let e = c.detect.ensures in
-    rw c.in-Detect.is (record {
-      event = _;
-      happens = detecting;
-      does = detects (detects_meant g.C.Carrier.carried _ _ _ _ c.args.carrier.now c.detect.new.carrier c.detect.result e.stopped e.after);
-    })
+returns-in-Detect-clause-performed g c = rw c.in-Detect.is (record { event = _; happens = detecting; does = detects c.detect.ensures.detects })
 
 pub returns-in-Edit-clause-performed : goal.returns-in-Edit-clause-performed
 returns-in-Edit-clause-performed g c = rw c.in-Edit.is (record { event = _; happens = editing; does = call_does c.edit.ensures })

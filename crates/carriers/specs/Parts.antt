@@ -7,12 +7,12 @@ use Rattle.carriers.specs.declared.message.Message.{Message}
 use Rattle.carriers.specs.declared.picked.Picked.{Picked}
 
 -- What a container of messages and a count of those handed out mean as a carrier.
-abbrev pub counted : Held Message → (handed : ℕ) → Carried
-counted held handed = record { waiting = held.items; capacity = held.capacity; handed = handed }
+abbrev pub carried_from : Held Message → (handed : ℕ) → Carried
+carried_from held handed = record { waiting = held.items; capacity = held.capacity; handed = handed }
 
 -- The same of a carrier, where `held` tells what its container holds.
 abbrev pub carried_by : {C : Type 0} → (held : C → Held Message) → Counted C → Carried
-carried_by held c = counted (held c.messages) c.handed
+carried_by held c = carried_from (held c.messages) c.handed
 
 -- The same where the container is seen as what it holds, as a queue and a stack are.
 abbrev pub held_carried : Counted (Held Message) → Carried
