@@ -1,5 +1,5 @@
 -- What comes of a script on a new book.
-use Rattle.std.proofs.Common.{◌≡◌, List, ℕ, replicate, Result, subst}
+use Rattle.std.proofs.Common.{◌≡◌, true, List, ℕ, replicate, Result, Ok, Err, is_ok, OnOk, subst}
 use Rattle.rows.specs.Waiting.{Waiting, idle}
 use Rattle.groups.specs.History.{begun}
 use Rattle.groups.specs.State.{State, fresh}
@@ -27,3 +27,8 @@ comes_out {s} {s'} {was} {records} {before} {carrier} {script} {bytes} {bytes'} 
       carrier = carrier;
       scripted = rw (← blanks, ← empty) (subst (λ t. Scripted (of_history (terms t)) begun (lent was before bytes) script a r.0 (lent records carrier bytes')) new r.1);
     }
+
+-- what holds of a success
+pub where_ok : {T E P : Type 0} (r : Result T E) → OnOk r P → is_ok r ≡ true → P
+where_ok (Ok t) p ok = p
+where_ok (Err e) p ok = absurd (cc ok)

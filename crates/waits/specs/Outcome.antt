@@ -32,7 +32,7 @@ abbrev pub program_terms : Terms
 program_terms = new_terms program_jobs 7 program_trail
 
 -- The answer, and the answer bytes, are those that the rules give a script on the history of a new book, with a blank record for each
--- job, and an empty carrier. That this is a queue, and what is printed of the answer, is not told.
+-- job, and an empty carrier. That this is a queue is not told.
 pub record ComesOut (script bytes : List ℕ) (answer : Result FinishedScript StoppedScript) (bytes' : List ℕ) : Type 0 where
   pub history : History Edit
   pub records : List RunRecord

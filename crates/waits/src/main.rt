@@ -4,27 +4,17 @@
 mod input;
 mod meaning;
 mod run;
+mod serve;
 #[cfg(test)]
 mod tests;
 mod trouble;
 
-use crate::input::read_up_to;
-use crate::run::{PROGRAM_ANSWERS, run};
+use crate::serve::serve;
 use crate::trouble::Trouble;
-use book::{Answer, SCRIPT_MAX};
-
-// One byte more than a script can have, so that one that is too long is seen to be so.
-const INPUT_MAX: usize = SCRIPT_MAX + 1;
 
 fn main(rt: HostRuntime) -> Result<(), Trouble> {
-    let mut input = [0; INPUT_MAX];
-    let count = read_up_to(&mut rt.stdin(), &mut input).map_err(Trouble::Input)?;
-    let mut answers = [0; PROGRAM_ANSWERS];
-    let outcome = run(&input[..count], &mut answers);
-    // printed after a fault too: what finished detections wrote stays
-    let written = Answer::Ran(outcome).written();
-    let printed = rt.write_all(&answers[..written]).map_err(Trouble::Output);
+    let served = serve(&mut rt.stdin(), &mut rt.stdout()).map_err(Trouble::Input)?;
     // a fault is told even where nothing could be printed
-    outcome.map_err(Trouble::Stopped)?;
-    printed
+    served.outcome.map_err(Trouble::Stopped)?;
+    served.printed.map_err(Trouble::Output)
 }

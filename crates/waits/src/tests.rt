@@ -1,11 +1,12 @@
 // The line that a fault prints, and reading in pieces.
 use crate::input::read_up_to;
 use crate::run::run;
+use crate::serve::serve;
 use crate::trouble::Trouble;
 use book::{BookFault, ScriptFault, StoppedScript};
 use detection::DetectionFault;
 use std::io;
-use std::io::{ErrorKind, Read};
+use std::io::{Cursor, ErrorKind, Read};
 use std::test::Fail;
 
 fn stopped(fault: ScriptFault) -> Trouble {
@@ -138,5 +139,27 @@ fn reads_pieces_to_the_end_or_to_a_failure(rt: HostRuntime) -> Result<(), Fail> 
     assert_eq!(rt; &memory, b"OOKKC\0\0\0");
     assert_eq!(rt; read_up_to(&mut first.chain(second), &mut memory[..4])?, 4);
     assert!(rt; read_up_to(&mut first.chain(Broken), &mut memory).is_err());
+    Ok(())
+}
+
+// A detection writes its answer, and K then has no group to keep: the bytes are printed all the same.
+#[test]
+fn prints_what_was_written_before_a_fault(rt: HostRuntime) -> Result<(), Fail> {
+    let first: &[u8] = b"D";
+    let second: &[u8] = b"\x01K";
+    let mut output = Cursor::new([9; 6]);
+    let served = serve(&mut first.chain(second), &mut output)?;
+    assert!(rt; served.printed.is_ok());
+    assert_eq!(rt; output.into_inner(), [1, 0, 0, 0, 9, 9]);
+    match served.outcome {
+        Ok(_) => assert!(rt; false),
+        Err(stopped) => {
+            assert_eq!(rt; stopped.fault, ScriptFault::NoScriptGroup);
+            assert_eq!(rt; (stopped.offset, stopped.index, stopped.written), (2, 1, 4));
+        }
+    }
+    let mut none = Cursor::new([9; 6]);
+    assert!(rt; serve(&mut first.chain(Broken), &mut none).is_err());
+    assert_eq!(rt; none.into_inner(), [9; 6]);
     Ok(())
 }

@@ -1,0 +1,33 @@
+// From the input to the output.
+ghost use Rattle.std.specs.Prelude.{is_ok, IfOk};
+ghost use Rattle.waits.specs.Service.{Serves};
+
+use crate::input::read_up_to;
+use crate::run::{PROGRAM_ANSWERS, run};
+use book::{Answer, FinishedScript, SCRIPT_MAX, StoppedScript};
+use std::io;
+use std::io::{Read, Write};
+
+// One byte more than a script can have, so that one that is too long is seen to be so.
+const INPUT_MAX: usize = SCRIPT_MAX + 1;
+
+// What came of a script, and of writing its bytes.
+#[derive(Drop)]
+pub struct Served {
+    pub outcome: Result<FinishedScript, StoppedScript>,
+    pub printed: io::Result<()>,
+}
+
+// Runs the script that the input holds, and writes to the output what it has written. Where the input can't be read, nothing is run.
+pub fn serve<R: Read, W: Write>(input: &mut R, output: &mut W) -> io::Result<Served>
+    ensures { IfOk result (λ s. Serves (R.remaining input.old) s.outcome (is_ok s.printed) (W.contents output.old) (W.contents output.new)) }
+{
+    let mut script = [0; INPUT_MAX];
+    let count = read_up_to(input, &mut script)?;
+    let mut answers = [0; PROGRAM_ANSWERS];
+    let outcome = run(&script[..count], &mut answers);
+    // written after a fault too: what finished detections wrote stays
+    let written = Answer::Ran(outcome).written();
+    let printed = output.write_all(&answers[..written]);
+    Ok(Served { outcome, printed })
+}
