@@ -81,3 +81,10 @@ module _ {s s₁ s₂ : State Waiting} {m d : ℕ} {e : Edit} {a : Answer} (firs
       ∙ ap (λ v. after v (keeps m d)) edited
       ∙ kept_round s e m d given.0 given.1
       ∙ ap (λ v. cond (accepted v) (changed s (edits e)) s) (sym (second.value ∙ ap (λ v. says v (edits e)) (first.after ∙ given.2)))
+
+  -- the edit, taken in the group, is taken
+  pub round_accepted : accepted a ≡ true → (accepted (says s opens) ≡ true) × (accepted (says (opened s) (edits e)) ≡ true)
+  round_accepted taken = (
+    ap accepted (sym first.value),
+    ap (λ v. accepted (says v (edits e))) (sym (first.after ∙ given.2)) ∙ ap accepted (sym second.value) ∙ taken,
+  )

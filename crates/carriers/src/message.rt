@@ -16,9 +16,9 @@ pub struct Wait {
     pub target: u8,
 }
 
-// A message says one thing about one wait.
+// A message says one thing about one wait. The wait comes first, so that its two bytes lie where they are read at once.
 #[derive(Clone, Copy, Drop, PartialEq, Eq, Debug)]
 pub struct Message {
-    pub kind: Kind,
     pub wait: Wait,
+    pub kind: Kind,
 }

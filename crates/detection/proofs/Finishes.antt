@@ -35,7 +35,7 @@ module _ {rows : List Waiting} {initiator : ℕ} (tabled : Tabled rows) (job : i
       let all = (within_bounds tabled job going).records in
       let count : d.deliveries ≡ length going.order =
       grown ∙ ap (growth before) took.handed ∙ growth_is_the_deliveries tabled job going fits in
-      let freed = ended_runs_tell rows tabled.lawful initiator job going.order (state records []) ended_run refl in
+      let freed = (ended_runs_tell rows tabled.lawful initiator job going.order (state records []) ended_run refl).tells in
       record {
         order = going.order;
         run = subst (λ (rs : List RunRecord). Exchange rows initiator going.order (state rs []))

@@ -70,7 +70,7 @@ module _ (rows : List Waiting) (ok : Sound rows) (initiator : ℕ) (l : initiato
       (λ i c. owes_no_ack j i (length order) d (get_or s.records i blank) w.frees.rank s.records h (w.frees.each i c) (no_ack_due_from d i c)) in
       omega (arith, sum_of_acks rows ok s j b, v.acks j, ap (weigh (Entries.grant_of j)) none, z)
 
-  no_ack_due : (j : ℕ) → j < length rows → (get_or s.records j blank).acks_due ≡ 0
+  pub no_ack_due : (j : ℕ) → j < length rows → (get_or s.records j blank).acks_due ≡ 0
   no_ack_due j b = no_ack_due_from (suc (length order)) j b (omega arith)
 
   no_done_due_from : (d j : ℕ) → j < length rows → length order < w.notices.rank j + d → (get_or s.records j blank).dones_due ≡ 0
@@ -81,7 +81,7 @@ module _ (rows : List Waiting) (ok : Sound rows) (initiator : ℕ) (l : initiato
       (λ g. nothing_due rows i (get_or s.records i blank) (no_ack_due i c) (no_done_due_from d i c g))) in
       omega (arith, sum_of_dones rows ok s j b, v.dones j, ap (weigh (Entries.notice_of j)) none, z)
 
-  no_done_due : (j : ℕ) → j < length rows → (get_or s.records j blank).dones_due ≡ 0
+  pub no_done_due : (j : ℕ) → j < length rows → (get_or s.records j blank).dones_due ≡ 0
   no_done_due j b = no_done_due_from (suc (length order)) j b (omega arith)
 
   nothing_owed : sums (length rows) s.records (Entries.owed rows) ≡ 0

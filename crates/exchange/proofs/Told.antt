@@ -9,6 +9,7 @@ use Rattle.exchange.specs.Runs.{RunState}
 use Rattle.exchange.specs.Verdicts.{EndedRunsTell}
 use Rattle.exchange.proofs.Bounded.{exchange_keeps}
 use Rattle.exchange.proofs.Entries
+use Rattle.exchange.proofs.Exact.{no_done_due, no_ack_due}
 use Rattle.exchange.proofs.Kept.{Kept, sum_of_granted, sum_of_notified, sum_of_free}
 use Rattle.exchange.proofs.Sound.{need, targets, Sound, lawful_is_sound, count_grows}
 use Rattle.exchange.proofs.Weights.{weigh}
@@ -77,4 +78,8 @@ ended_runs_tell rows h initiator l order s x none =
     let ok = lawful_is_sound rows h in
     let told = free_is_loosened rows ok initiator (length order) s (exchange_keeps rows ok initiator l order s x) none l in
     let freed = loosened_can_be_freed rows initiator l in
-    (λ f. freed.0 (told.0 f), λ c. told.1 (freed.1 c))
+    record {
+      tells = (λ f. freed.0 (told.0 f), λ c. told.1 (freed.1 c));
+      dones = no_done_due rows ok initiator l order s x none;
+      acks = no_ack_due rows ok initiator l order s x none;
+    }

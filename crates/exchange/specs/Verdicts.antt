@@ -7,10 +7,15 @@ use Rattle.tables.specs.Grants.{CanBeFreed}
 use Rattle.exchange.specs.Records.{blank}
 use Rattle.exchange.specs.Runs.{RunState, Exchange}
 
--- A run is over when no message waits. In whatever order its messages came, the initiator is free then exactly if some list of
--- lawful grants, the empty one counted, makes it active.
+-- What is so of a run that is over: the initiator is free exactly if some list of lawful grants, the empty one counted, makes it active;
+-- and every DONE and every ACK that was due to a job has come.
+pub record Ended (rows : List Waiting) (initiator : ℕ) (s : RunState) : Type 0 where
+  pub tells : ((slice_index_or s.records initiator blank).free ≡ true) ↔ CanBeFreed rows initiator
+  pub dones : (j : ℕ) → j < length rows → (slice_index_or s.records j blank).dones_due ≡ 0
+  pub acks : (j : ℕ) → j < length rows → (slice_index_or s.records j blank).acks_due ≡ 0
+
+-- A run is over when no message waits. So it ends, in whatever order its messages came.
 abbrev pub EndedRunsTell : Type 0
 EndedRunsTell =
     (rows : List Waiting) → lawful rows ≡ true → (initiator : ℕ) → initiator < length rows
-    → (order : List Message) (s : RunState) → Exchange rows initiator order s → s.waiting ≡ []
-    → ((slice_index_or s.records initiator blank).free ≡ true) ↔ CanBeFreed rows initiator
+    → (order : List Message) (s : RunState) → Exchange rows initiator order s → s.waiting ≡ [] → Ended rows initiator s

@@ -8,7 +8,7 @@ pub fn runs_are_bounded()
     ensures { RunsAreBounded }
 {}
 
-// When no message waits, the initiator is free exactly if some list of lawful grants makes it active.
+// When no message waits, the initiator is free exactly if some list of lawful grants makes it active, and no DONE or ACK is due any more.
 pub fn ended_runs_tell()
     ensures { EndedRunsTell }
 {}

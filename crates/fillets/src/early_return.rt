@@ -1,7 +1,7 @@
 // A fillet that may fail while its group is open.
-ghost use Rattle.std.specs.Prelude.{◌≡◌, true, false, is_ok, if◌then◌else◌};
+ghost use Rattle.std.specs.Prelude.{◌≡◌, is_ok, if◌then◌else◌};
 ghost use Rattle.book.specs.Calls.{changed};
-ghost use Rattle.fillets.specs.Fillets.{waits_for_faces};
+ghost use Rattle.fillets.specs.Fillets.{waits_for_faces, told_fillet, fillet_comes};
 
 use crate::fillet::{FACES, FilletFault};
 use book::Book;
@@ -14,7 +14,7 @@ pub fn round_edge(
     faces: &[u8],
     thin: bool,
 ) -> Result<(), FilletFault>
-    ensures thin { thin ≡ true → is_ok result ≡ false }
+    ensures value { told_fillet result ≡ fillet_comes book.old thin (waits_for_faces fillet faces.now) }
     ensures after { book.new ≡ (if is_ok result then changed book.old (waits_for_faces fillet faces.now) else book.old) }
 {
     let ticket = book.open()?;

@@ -1,7 +1,6 @@
 // A fillet that is made, and a second one that is only tried.
-ghost use Rattle.std.specs.Prelude.{◌≡◌, true, is_ok};
-ghost use Rattle.book.specs.Calls.{changed};
-ghost use Rattle.fillets.specs.Fillets.{waits_for_faces};
+ghost use Rattle.std.specs.Prelude.{◌≡◌, Some};
+ghost use Rattle.fillets.specs.Fillets.{waits_for_faces, told_fillet, twice_comes, twice_leaves};
 
 use crate::fillet::{FACES, FilletFault};
 use book::Book;
@@ -14,7 +13,8 @@ pub fn round_twice(
     second: usize,
     faces: &[u8],
 ) -> Result<(), FilletFault>
-    ensures { is_ok result ≡ true → book.new ≡ changed book.old (waits_for_faces first faces.now) }
+    ensures value { told_fillet result ≡ Some (twice_comes book.old (waits_for_faces first faces.now) (waits_for_faces second faces.now)) }
+    ensures after { book.new ≡ twice_leaves book.old (waits_for_faces first faces.now) }
 {
     let ticket = book.open()?;
     let asked = book.request(first, FACES, faces);

@@ -6,7 +6,7 @@ use book::{Call, Edit, Ending, Stub};
 pub const MARK: u16 = 7;
 
 // How many calls the day has.
-pub const STEPS: usize = 29;
+pub const STEPS: usize = 30;
 
 // A call, what is said after it, and whether the jobs that wait are listed then.
 #[derive(Clone, Copy)]
@@ -37,11 +37,18 @@ const HANDLE_SEATS: &[u8] = &[Job::DoorMesh as u8, Job::DrawerFront as u8];
 
 const SIDE_AND_TOP: &[u8] = &[Job::SideView as u8, Job::TopView as u8];
 
-// A detection from the handle.
-const ASKING_SCRIPT: &[u8] = &[b'D', Job::Handle as u8];
+// A detection from the sheet, an opening, and a grant that no job waits for.
+const FAULTY_SCRIPT: &[u8] = &[
+    b'D',
+    Job::Sheet as u8,
+    b'O',
+    b'G',
+    Job::LeftFace as u8,
+    Job::Handle as u8,
+];
 
-// An opening, and a grant that no job waits for.
-const FAULTY_SCRIPT: &[u8] = &[b'O', b'G', Job::LeftFace as u8, Job::Handle as u8];
+// Detections from the handle and from the fillet.
+const ASKING_SCRIPT: &[u8] = &[b'D', Job::Handle as u8, b'D', Job::Fillet as u8];
 
 // A call of which nothing more is said.
 fn plain(call: Call<'static>) -> Step<'static> {
@@ -85,7 +92,7 @@ impl<'d> Step<'d> {
     }
 }
 
-// A fillet, a preview and a sheet wait for what they are made of; then a fillet fails on a drawer edge, in a group of its own; a
+// A fillet, a preview and a sheet wait for what they are made of, and the fillet can wait no second time; then one fails on a drawer edge, in a group of its own; a
 // handle is kept; three views wait in a circle, in a group that is cancelled, since the sheet is stuck in it; faces, meshes and
 // views are done; and two scripts are run.
 pub fn day() -> [Step<'static>; STEPS] {
@@ -94,6 +101,7 @@ pub fn day() -> [Step<'static>; STEPS] {
         ask(Job::Fillet, 2, FACES),
         ask(Job::Preview, 1, MESHES),
         ask(Job::Sheet, 2, VIEWS),
+        ask(Job::Fillet, 2, FACES).said("the fillet waits already"),
         plain(Call::Open)
             .said("it is for the drawer edge; waiting before it:")
             .listed(),
@@ -124,12 +132,12 @@ pub fn day() -> [Step<'static>; STEPS] {
         grant(Job::FrontView, Job::Sheet),
         end(Ending::Keep, 1).said("left waiting:").listed(),
         plain(Call::Run {
-            script: ASKING_SCRIPT,
-        }),
-        plain(Call::Run {
             script: FAULTY_SCRIPT,
         })
         .said("left waiting:")
         .listed(),
+        plain(Call::Run {
+            script: ASKING_SCRIPT,
+        }),
     ]
 }

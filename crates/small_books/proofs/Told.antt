@@ -54,8 +54,8 @@ computed_is_told a h =
     }
 
 -- The calls, which come after the runs.
-small_calls_hold : AllByRecursion Holds (drop 8 table)
+small_calls_hold : AllByRecursion Holds (drop 9 table)
 small_calls_hold = (record { answer = refl; rows = refl }, (record { answer = refl; rows = refl }, (record { answer = refl; rows = refl }, (record { answer = refl; rows = refl }, (record { answer = refl; rows = refl }, (record { answer = refl; rows = refl }, tt))))))
 
 pub small_books_hold : SmallBooksHold
-small_books_hold = (computed_is_told _ refl, (computed_is_told _ refl, (computed_is_told _ refl, (computed_is_told _ refl, (computed_is_told _ refl, (computed_is_told _ refl, (computed_is_told _ refl, (computed_is_told _ refl, small_calls_hold))))))))
+small_books_hold = (computed_is_told _ refl, (computed_is_told _ refl, (computed_is_told _ refl, (computed_is_told _ refl, (computed_is_told _ refl, (computed_is_told _ refl, (computed_is_told _ refl, (computed_is_told _ refl, (computed_is_told _ refl, small_calls_hold)))))))))

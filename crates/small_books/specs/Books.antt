@@ -73,6 +73,7 @@ table =
     ∷ asked b4 0 true 12
     ∷ asked b5 0 false 8
     ∷ asked b6 0 true 6
+    ∷ asked b6 2 true 6
     ∷ asked b7 0 false 16
     ∷ called b2_book opens (ticket 7 1) b2
     ∷ called (after b2_book opens) b2_request done b3

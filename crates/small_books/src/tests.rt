@@ -140,7 +140,14 @@ fn three_and_four_jobs(rt: HostRuntime) {
         &[needs(0, 2, &[1, 2]), needs(1, 1, &[0])],
         stuck(0, 8),
     );
-    comes_out(&rt, 3, &[needs(0, 1, &[1]), needs(2, 1, &[1])], free(0, 6));
+    for initiator in [0, 2] {
+        comes_out(
+            &rt,
+            3,
+            &[needs(0, 1, &[1]), needs(2, 1, &[1])],
+            free(initiator, 6),
+        );
+    }
     let b7 = [
         needs(0, 3, &[1, 2, 3]),
         needs(1, 1, &[2]),
