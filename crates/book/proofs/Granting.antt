@@ -1,5 +1,5 @@
 -- A book's grants are those that the rule of lawful grants allows.
-use Rattle.std.proofs.Common.{◌≡◌, ℕ, ◌<◌, ◌≤◌, Bool, true, false, cond, not, ◌||◌, ◌↔◌, eqb, leb, ltb, length, sym, refl, arith}
+use Rattle.std.proofs.Common.{◌≡◌, Bool, true, false, cond, not, ◌||◌, leb, ltb, length, refl, arith}
 use Rattle.std.proofs.lemmas.Bool.{or_parts, not-false, leb-false, ltb-false, lt-leb, le-ltb}
 use Rattle.rows.specs.Waiting.{Waiting, at, among}
 use Rattle.tables.specs.Grants.{Grant, Allowed}
@@ -8,7 +8,7 @@ use Rattle.groups.specs.State.{State, face, full}
 use Rattle.book.specs.Answers.{Answer, done, refusal, says}
 use Rattle.book.specs.declared.fault.BookFault.{BookFault}
 use Rattle.book.specs.declared.fault.BookFault.TheVariants.{NoSuchJob, TrailFull, GranterBlocked, NoSuchWait}
-use Rattle.book.specs.Law.{grant_call, AsAllowed, GrantsAreAllowed}
+use Rattle.book.specs.Law.{grant_call, GrantsAreAllowed}
 
 -- a check that is passed
 passed : (q : Bool) (f : BookFault) (a : Answer) → cond q (refusal f) a ≡ done → (q ≡ false) × (a ≡ done)

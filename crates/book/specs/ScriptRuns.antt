@@ -1,7 +1,5 @@
 -- A script that is run on a book.
 use Rattle.std.specs.Prelude.{ℕ, List, Ok, Err, Result}
-use Rattle.carriers.specs.Meaning.{Carried}
-use Rattle.exchange.specs.declared.record.RunRecord.{RunRecord}
 use Rattle.rows.specs.Waiting.{Waiting}
 use Rattle.groups.specs.History.{History}
 use Rattle.groups.specs.State.{State}

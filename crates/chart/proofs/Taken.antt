@@ -1,5 +1,5 @@
 -- What the check tells of bytes that it takes.
-use Rattle.std.proofs.Common.{◌≡◌, ℕ, zero, suc, ◌/◌, ◌≤◌, true, false, not, List, [], ◌∷◌, length, take, drop, map, position, Some, None, Ok, Err, Option, Result, IfOk, Bor, refl, ap, ◌∙◌, ⊎_elim, arith}
+use Rattle.std.proofs.Common.{◌≡◌, ℕ, ◌≤◌, true, false, List, [], length, map, Some, None, Ok, Err, Option, Result, IfOk, Bor, refl, ap, ◌∙◌, ⊎_elim, arith}
 use Rattle.std.proofs.lemmas.Bool.{cases_Bool}
 use Rattle.std.proofs.lemmas.Bool.Decides.{nat_tests}
 use Rattle.std.specs.Simd.{first_chunks}

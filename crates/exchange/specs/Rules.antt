@@ -1,6 +1,6 @@
 -- The rules of the exchange: what a job makes of its own record, and which messages it puts.
 -- The table is only read: active and blocked, needs and waits are those of its rows.
-use Rattle.std.specs.Prelude.{ℕ, ◌+◌, ◌-◌, Bool, cond, not, ◌&&◌, List, [], ◌∷◌, ◌++◌, length, ◌==◌}
+use Rattle.std.specs.Prelude.{ℕ, ◌+◌, ◌-◌, cond, not, ◌&&◌, List, [], ◌∷◌, ◌++◌, length, ◌==◌}
 use Rattle.carriers.specs.declared.message.Kind.{Kind}
 use Rattle.carriers.specs.declared.message.Kind.TheVariants.{Notify, Done, Grant, Ack}
 use Rattle.carriers.specs.declared.message.Message.{Message}

@@ -1,5 +1,5 @@
 -- What a table tells of its rows.
-use Rattle.std.specs.Prelude.{ℕ, ◌+◌, ◌*◌, Bool, true, cond, ◌&&◌, List, [], ◌∷◌, length, sum_by, Option, nat_le}
+use Rattle.std.specs.Prelude.{ℕ, ◌+◌, ◌*◌, Bool, cond, List, [], ◌∷◌, length, sum_by, Option, nat_le}
 use Rattle.std.specs.List.{enumerate_from, find, list_all}
 use Rattle.rows.specs.Waiting.{Waiting, among}
 use Rattle.rows.specs.Law.{targets_max, row_fits}

@@ -107,6 +107,20 @@ fn tells_refusals_of_the_book(rt: HostRuntime) -> Result<(), Fail> {
 }
 
 #[test]
+fn tells_what_could_not_be_done(rt: HostRuntime) -> Result<(), Fail> {
+    let broken = || io::Error::from(ErrorKind::Other);
+    let cases = [
+        (Trouble::Input(broken()), "the script can't be read: "),
+        (Trouble::Output(broken()), "the answers can't be written: "),
+    ];
+    for (trouble, words) in cases {
+        let line = format!(in rt.alloc(); "{trouble:?}")?;
+        assert!(rt; line.as_str().starts_with(words));
+    }
+    Ok(())
+}
+
+#[test]
 fn tells_where_a_script_stops(rt: HostRuntime) {
     let mut answers = [0; 4];
     match run(b"G\x01\0", &mut answers) {
@@ -138,6 +152,7 @@ fn reads_pieces_to_the_end_or_to_a_failure(rt: HostRuntime) -> Result<(), Fail> 
     assert_eq!(rt; count, 5);
     assert_eq!(rt; &memory, b"OOKKC\0\0\0");
     assert_eq!(rt; read_up_to(&mut first.chain(second), &mut memory[..4])?, 4);
+    assert_eq!(rt; read_up_to(&mut &first[2..], &mut memory)?, 0);
     assert!(rt; read_up_to(&mut first.chain(Broken), &mut memory).is_err());
     Ok(())
 }

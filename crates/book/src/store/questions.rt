@@ -83,7 +83,8 @@ impl<'a> Table for Book<'a> {
     fn waits_for(&self, waiter: usize, job: usize) -> bool {
         // no target is beyond the last job
         job < self.jobs
-            && self.stored(waiter)
+            && self
+                .stored(waiter)
                 .is_some_and(|plain| plain.waits_for(job as u8))
     }
 }
