@@ -58,9 +58,10 @@ answer m room f opens = cond (can_open f) (ticket m (f.depth + 1)) (refusal TooD
 answer m room f (keeps mark depth) = ending_answer m f mark depth
 answer m room f (cancels mark depth) = ending_answer m f mark depth
 
--- What a book answers to a call, and what it is afterwards: changed, or exactly as before.
+-- What a book answers to a call.
 abbrev pub says : State Waiting → Call → Answer
 says s c = answer s.mark s.room (face s) c
 
+-- What it is afterwards: changed where the call is accepted, and else as before.
 abbrev pub after : State Waiting → Call → State Waiting
 after s c = cond (accepted (says s c)) (changed s c) s

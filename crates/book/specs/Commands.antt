@@ -18,18 +18,20 @@ pub data Head : Type 0 where
   cut : Head
   whole : Command → (bytes : ℕ) → Head
 
--- R has job, need, M and M targets; G has granter and waiter; D has a job. Every operand is one byte.
+-- R has a job, a need, M and M targets. Every operand, here and below, is one byte.
 abbrev pub request_head : List ℕ → Head
 request_head [] = cut
 request_head (job ∷ []) = cut
 request_head (job ∷ (need ∷ [])) = cut
 request_head (job ∷ (need ∷ (m ∷ rest))) = cond (nat_le m (length rest)) (whole (makes (requests job need (take m rest))) (m + 4)) cut
 
+-- G has a granter and a waiter.
 abbrev pub grant_head : List ℕ → Head
 grant_head [] = cut
 grant_head (granter ∷ []) = cut
 grant_head (granter ∷ (waiter ∷ rest)) = whole (makes (grants granter waiter)) 3
 
+-- D has a job.
 abbrev pub detection_head : List ℕ → Head
 detection_head [] = cut
 detection_head (job ∷ rest) = whole (detecting job) 2

@@ -7,6 +7,7 @@ use Rattle.book.specs.declared.fault.BookFault.{BookFault}
 use Rattle.book.specs.declared.fault.RefusedEnding.{RefusedEnding}
 use Rattle.book.specs.declared.fault.BookFault.TheVariants.{NoSuchJob, Blocked, WrongCounts, WrongTarget, TrailFull, GranterBlocked, NoSuchWait, TooDeep, NotInnermost}
 
+-- The number of each refusal.
 abbrev pub number : BookFault → ℕ
 number NoSuchJob = 1
 number Blocked = 2

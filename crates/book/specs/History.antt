@@ -32,6 +32,7 @@ listed h (cancels mark depth) = forget h
 abbrev pub fed : Terms → History Edit → Call → History Edit
 fed t h c = cond (accepted (answers t h c)) (listed h c) h
 
+-- What the history of a book was told.
 abbrev pub terms : State Waiting → Terms
 terms s = record { jobs = length s.rows; mark = s.mark; room = s.room }
 

@@ -29,5 +29,6 @@ pub record AsAllowed (s : State Waiting) (g : Grant) : Type 0 where
   pub accepts : (says s (grant_call g) ≡ done) ↔ (Allowed s.rows g × (full s.room (face s) ≡ false))
   pub leaves : (changed s (grant_call g)).rows ≡ granted_rows s.rows g
 
+-- So it is of every book and every grant.
 abbrev pub GrantsAreAllowed : Type 0
 GrantsAreAllowed = (s : State Waiting) (g : Grant) → AsAllowed s g

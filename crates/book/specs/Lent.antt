@@ -3,10 +3,12 @@ use Rattle.std.specs.Prelude.{ℕ, List}
 use Rattle.carriers.specs.Meaning.{Carried}
 use Rattle.exchange.specs.declared.record.RunRecord.{RunRecord}
 
+-- The records, what the carrier means, and the bytes.
 pub record Lent : Type 0 where
   pub records : List RunRecord
   pub carrier : Carried
   pub bytes : List ℕ
 
+-- The three of them.
 abbrev pub lent : List RunRecord → Carried → (bytes : List ℕ) → Lent
 lent records carrier bytes = record { records = records; carrier = carrier; bytes = bytes }

@@ -28,10 +28,11 @@ use Rattle.book.specs.declared.snapshot.Snapshot.{Snapshot}
 use Rattle.book.specs.declared.script.fault.FinishedScript.{FinishedScript}
 use Rattle.book.specs.declared.script.fault.StoppedScript.{StoppedScript}
 
--- What a moment tells.
+-- What was seen at a moment.
 abbrev pub seen_at : Moment → View
 seen_at m = snapshot_view m.seen
 
+-- What the call of a moment answered.
 abbrev pub answer_at : Moment → Answer
 answer_at m = m.answer
 

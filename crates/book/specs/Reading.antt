@@ -26,6 +26,7 @@ ByteRead script from to r =
 abbrev pub BytesRead : (script : List ℕ) (from to count : ℕ) → List ℕ → Type 0
 BytesRead script from to count bs = (bs ≡ take count (drop from script)) × (to ≡ from + count) × (to ≤ length script)
 
+-- There are fewer bytes unread than are wanted.
 abbrev pub Fewer : (script : List ℕ) (from count : ℕ) → ScriptFault → Type 0
 Fewer script from count fault = (fault ≡ CutOff) × (length (drop from script) < count)
 

@@ -5,6 +5,7 @@ use Rattle.book.specs.Faults.{number as book-number, value as book-value}
 use Rattle.book.specs.declared.script.fault.ScriptFault.{ScriptFault}
 use Rattle.book.specs.declared.script.fault.ScriptFault.TheVariants.{TooLong, UnknownLetter, CutOff, NoScriptGroup, NoAnswerSpace, OfBook, OfDetection}
 
+-- The number of each fault; those of the book and of a detection are told as they tell them.
 abbrev pub script_number : ScriptFault → ℕ
 script_number TooLong = 13
 script_number UnknownLetter = 14

@@ -40,5 +40,6 @@ pub record View : Type 0 where
   pub rows : List Waiting
   pub depth : ℕ
 
+-- What is seen of a subject.
 abbrev pub view_of : {X : Type 0} → Subject X → X → View
 view_of S x = record { rows = S.rows x; depth = S.depth x }

@@ -22,10 +22,11 @@ held_carried = carried_by (λ (held : Held Message). held)
 abbrev pub container : {C : Type 0} → Counted C → C
 container c = c.messages
 
--- What a picker's messages are held in, and the picks that it has not used up yet.
+-- What a picker's messages are held in.
 abbrev pub picker_messages : Picked → Held Message
 picker_messages p = p.messages
 
+-- A picker's picks that are left.
 abbrev pub picks_left : Picked → List ℕ
 picks_left p = p.picks.now
 

@@ -3,6 +3,7 @@ use Rattle.std.specs.Prelude.{ℕ, Some, None, Option}
 use Rattle.chart.specs.declared.fault.ChartFault.{ChartFault}
 use Rattle.chart.specs.declared.fault.ChartFault.TheVariants.{WrongLength, WrongRow}
 
+-- The number of each refusal.
 abbrev pub number : ChartFault → ℕ
 number WrongLength = 18
 number (WrongRow job) = 19

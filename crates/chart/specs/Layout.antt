@@ -13,13 +13,15 @@ row_bytes = 18
 abbrev pub chart_max : ℕ
 chart_max = jobs_max * row_bytes
 
--- The parts of a job's bytes.
+-- The need of a job is its first byte.
 abbrev pub need_byte : List ℕ → ℕ
 need_byte bytes = slice_index bytes 0
 
+-- Its number of targets is its second byte.
 abbrev pub count_byte : List ℕ → ℕ
 count_byte bytes = slice_index bytes 1
 
+-- Its target bytes are those behind.
 abbrev pub target_bytes : List ℕ → List ℕ
 target_bytes bytes = drop 2 bytes
 
@@ -27,9 +29,10 @@ target_bytes bytes = drop 2 bytes
 abbrev pub row_of : List ℕ → Waiting
 row_of bytes = stored (need_byte bytes) (count_byte bytes) (target_bytes bytes)
 
--- The bytes of each job, of as many jobs as there are whole rows.
+-- How many jobs have their bytes there: as many as there are whole rows.
 abbrev pub job_count : List ℕ → ℕ
 job_count bytes = length bytes / row_bytes
 
+-- The bytes of each of them.
 abbrev pub bytes_of_jobs : List ℕ → List (List ℕ)
 bytes_of_jobs bytes = first_chunks row_bytes (job_count bytes) bytes

@@ -6,6 +6,7 @@ use Rattle.chart.specs.declared.chart.Chart.{Chart}
 use Rattle.chart.specs.declared.fault.ChartFault.{ChartFault}
 use Rattle.chart.specs.Layout.{row_of}
 
+-- The rows of a chart.
 abbrev pub rows_of : Chart → List Waiting
 rows_of c = map row_of c.rows.now
 

@@ -11,6 +11,7 @@ use Rattle.tables.specs.Tables.{waiters}
 abbrev pub on : (v u : ℕ) → Wait
 on v u = record { waiter = v; target = u }
 
+-- A message says a kind of thing about a wait.
 abbrev pub message : Kind → Wait → Message
 message kind wait = record { kind = kind; wait = wait }
 
@@ -21,6 +22,7 @@ to Done w = w.waiter
 to Grant w = w.waiter
 to Ack w = w.target
 
+-- Who receives a message: the target gets NOTIFY and ACK, the waiter DONE and GRANT.
 abbrev pub receiver : Message → ℕ
 receiver m = to m.kind m.wait
 

@@ -19,14 +19,18 @@ freed acks r = record { notified = r.notified; free = true; granted = r.granted;
 abbrev pub with_granted : ℕ → RunRecord → RunRecord
 with_granted n r = record { notified = r.notified; free = r.free; granted = n; dones_due = r.dones_due; acks_due = r.acks_due; notified_by = r.notified_by; freed_by = r.freed_by }
 
+-- So many DONEs are due.
 abbrev pub with_dones : ℕ → RunRecord → RunRecord
 with_dones n r = record { notified = r.notified; free = r.free; granted = r.granted; dones_due = n; acks_due = r.acks_due; notified_by = r.notified_by; freed_by = r.freed_by }
 
+-- So many ACKs are due.
 abbrev pub with_acks : ℕ → RunRecord → RunRecord
 with_acks n r = record { notified = r.notified; free = r.free; granted = r.granted; dones_due = r.dones_due; acks_due = n; notified_by = r.notified_by; freed_by = r.freed_by }
 
+-- It was notified on this wait.
 abbrev pub with_notified_by : Wait → RunRecord → RunRecord
 with_notified_by w r = record { notified = r.notified; free = r.free; granted = r.granted; dones_due = r.dones_due; acks_due = r.acks_due; notified_by = Some w; freed_by = r.freed_by }
 
+-- It was freed on this wait.
 abbrev pub with_freed_by : Wait → RunRecord → RunRecord
 with_freed_by w r = record { notified = r.notified; free = r.free; granted = r.granted; dones_due = r.dones_due; acks_due = r.acks_due; notified_by = r.notified_by; freed_by = Some w }

@@ -14,6 +14,7 @@ module _ {P C : Type 0} (job : C → ℕ) (next : List P → C → P) where
   Undoes first o (g ∷ gs) rows (u ∷ us) =
       (rows ≡ drawn job next first o (g ∷ gs)) × (length u ≡ length g) × Undoes first o gs (unwound rows u) us
 
+  -- So it is of a history, taken apart.
   abbrev pub Shown : List P → List P → List (List (Old P)) → History C → Type 0
   Shown first rows us (history o gs) = Undoes first o gs rows us
 

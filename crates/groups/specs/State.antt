@@ -22,6 +22,7 @@ pub record Face (P : Type 0) : Type 0 where
   pub depth : ℕ
   pub used : ℕ
 
+-- What the answers of a state go by.
 abbrev pub face : {P : Type 0} → State P → Face P
 face s = record { rows = s.rows; depth = length s.groups; used = total s.groups }
 

@@ -1,10 +1,11 @@
 -- The bytes that tell of jobs whether they are loosened.
 use Rattle.std.specs.Prelude.{ℕ, Bool, List, ◌==◌, slice_index_or}
 
--- The byte of a loosened job, and that of any other.
+-- The byte of a loosened job.
 abbrev pub loose : ℕ
 loose = 0
 
+-- The byte of any other job.
 abbrev pub held : ℕ
 held = 1
 

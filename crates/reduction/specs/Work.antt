@@ -35,6 +35,7 @@ pub record SoundMarks (w : Work) : Type 0 where
 abbrev pub SettledIn : (from to : ℕ) → Work → Type 0
 SettledIn from to w = (v : ℕ) → from ≤ v → v < to → is_loose w.marks v ≡ false → count (looked_at w.marks w.queue) (at w.rows v).targets < (at w.rows v).need
 
+-- So it is of every job.
 abbrev pub Settled : Work → Type 0
 Settled w = SettledIn 0 (length w.rows) w
 

@@ -31,7 +31,7 @@ pub fn place_of(targets: &[u8], job: usize) -> Option<usize>
     targets.iter().position(|target| *target as usize == job)
 }
 
-// Whether a job stands at some of the places, in use or not. All are compared, with no early exit, so that it can be done at once.
+// Whether a job stands at some of the places, in use or not. All are compared at once, without an early exit.
 pub fn stands_somewhere(places: &[u8; TARGETS_MAX], job: u8) -> bool
     ensures { result ≡ among job places.now }
 {

@@ -9,25 +9,31 @@ use Rattle.book.specs.Calls.{Call, edits, requests, grants, opens, cancels}
 abbrev pub needs : (need : ℕ) (targets : List ℕ) → Waiting
 needs need targets = record { need = need; targets = targets }
 
--- The rows of each book, from job 0 on.
+-- The rows of each book, from job 0 on. One job, which is active.
 abbrev pub one_job : List Waiting
 one_job = idle ∷ []
 
+-- B2: 0 waits for 1.
 abbrev pub b2 : List Waiting
 b2 = needs 1 (1 ∷ []) ∷ idle ∷ []
 
+-- B3: two jobs wait for each other.
 abbrev pub b3 : List Waiting
 b3 = needs 1 (1 ∷ []) ∷ needs 1 (0 ∷ []) ∷ []
 
+-- B4: 0 waits for one of 1 and 2, and 1 for 0.
 abbrev pub b4 : List Waiting
 b4 = needs 1 (1 ∷ 2 ∷ []) ∷ needs 1 (0 ∷ []) ∷ idle ∷ []
 
+-- B5: 0 waits for both of 1 and 2, and 1 for 0.
 abbrev pub b5 : List Waiting
 b5 = needs 2 (1 ∷ 2 ∷ []) ∷ needs 1 (0 ∷ []) ∷ idle ∷ []
 
+-- B6: 0 and 2 wait for 1.
 abbrev pub b6 : List Waiting
 b6 = needs 1 (1 ∷ []) ∷ idle ∷ needs 1 (1 ∷ []) ∷ []
 
+-- B7: 0 waits for three, of which 3 waits for 0.
 abbrev pub b7 : List Waiting
 b7 = needs 3 (1 ∷ 2 ∷ 3 ∷ []) ∷ needs 1 (2 ∷ []) ∷ idle ∷ needs 1 (0 ∷ []) ∷ []
 
@@ -50,16 +56,19 @@ pub data Line : Type 0 where
   of_run : RunLine → Line
   of_call : CallLine → Line
 
+-- A line that is a run.
 abbrev pub asked : List Waiting → (initiator : ℕ) → (free : Bool) → (deliveries : ℕ) → Line
 asked rows initiator free deliveries = of_run (record { rows = rows; initiator = initiator; free = free; deliveries = deliveries })
 
+-- A line that is a call.
 abbrev pub called : State Waiting → Call → Answer → List Waiting → Line
 called before call answer rows = of_call (record { before = before; call = call; answer = answer; rows = rows })
 
--- B2 as a book with mark 7, a trail of one record and no open group; and the calls of its group.
+-- B2 as a book with mark 7, a trail of one record and no open group.
 abbrev pub b2_book : State Waiting
 b2_book = record { rows = b2; groups = []; mark = 7; room = 1 }
 
+-- In the group, 1 comes to wait for 0.
 abbrev pub b2_request : Call
 b2_request = edits (requests 1 1 (0 ∷ []))
 

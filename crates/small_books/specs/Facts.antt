@@ -19,9 +19,11 @@ pub record Answers (c : CallLine) : Type 0 where
   pub answer : says c.before c.call ≡ c.answer
   pub rows : (after c.before c.call).rows ≡ c.rows
 
+-- A line of the table holds.
 abbrev pub Holds : Line → Type 0
 Holds (of_run a) = Tells a
 Holds (of_call c) = Answers c
 
+-- Every line does.
 abbrev pub SmallBooksHold : Type 0
 SmallBooksHold = AllByRecursion Holds table

@@ -15,10 +15,11 @@ pub record Allowed (rows : List Waiting) (g : Grant) : Type 0 where
   pub active : (at rows g.granter).need ≡ 0
   pub waits : among g.granter (at rows g.waiter).targets ≡ true
 
--- The rows after a grant, and after a list of them.
+-- The rows after a grant.
 abbrev pub granted_rows : List Waiting → Grant → List Waiting
 granted_rows rows g = slice_set rows g.waiter (granted g.granter (at rows g.waiter))
 
+-- The rows after a list of them.
 abbrev pub rows_after : List Waiting → List Grant → List Waiting
 rows_after rows [] = rows
 rows_after rows (g ∷ gs) = rows_after (granted_rows rows g) gs

@@ -17,13 +17,15 @@ use Rattle.groups.specs.Limits.{trail_max}
 use Rattle.exchange.specs.Bounds.{capacity_per_wait}
 use Rattle.book.specs.Creation.{new_terms}
 
--- The sizes of the program's book, of its trail and of its carrier.
+-- How many jobs the program's book has.
 abbrev pub program_jobs : ℕ
 program_jobs = jobs_max
 
+-- How many old rows its trail has.
 abbrev pub program_trail : ℕ
 program_trail = trail_max
 
+-- How many messages its carrier has room for.
 abbrev pub program_queue : ℕ
 program_queue = capacity_per_wait * waits_max
 

@@ -1,5 +1,5 @@
 // From the input to the output.
-ghost use Rattle.std.specs.Prelude.{is_ok, IfOk};
+ghost use Rattle.std.specs.Prelude.{◌≡◌, is_ok, IfOk, IfErr};
 ghost use Rattle.waits.specs.Service.{Serves};
 
 use crate::input::read_up_to;
@@ -20,7 +20,8 @@ pub struct Served {
 
 // Runs the script that the input holds, and writes to the output what it has written. Where the input can't be read, nothing is run.
 pub fn serve<R: Read, W: Write>(input: &mut R, output: &mut W) -> io::Result<Served>
-    ensures { IfOk result (λ s. Serves (R.remaining input.old) s.outcome (is_ok s.printed) (W.contents output.old) (W.contents output.new)) }
+    ensures serves { IfOk result (λ s. Serves (R.remaining input.old) s.outcome (is_ok s.printed) (W.contents output.old) (W.contents output.new)) }
+    ensures unread { IfErr result (λ _. output.new ≡ output.old) }
 {
     let mut script = [0; INPUT_MAX];
     let count = read_up_to(input, &mut script)?;

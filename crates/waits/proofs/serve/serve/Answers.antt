@@ -3,8 +3,8 @@ use Rattle.std.specs.Io.KnownBytes.{Appends}
 use Rattle.waits.proofs.Outcomes.{where_ok}
 use Rattle.waits.proofs.serve.serve.Goals as goal
 
-pub returns : goal.returns
-returns g c =
+pub returns-clause-serves : goal.returns-clause-serves
+returns-clause-serves g c =
     let before = g.W.Write.contents c.args.output.now in
     let after = g.W.Write.contents c.write_all-printed.new.self in
     record {
