@@ -115,7 +115,8 @@ def compare(bench, seed, repetitions):
         for other in ("plain", "indexed"):
             row.append(f"{best['waits'] / best[other]:.2f}")
         for other in ("plain", "indexed"):
-            row.append("" if base is best else f"{own['waits'] / max(own[other], 1e-9):.2f}")
+            # what is shorter than a start is lost in the noise of one
+            row.append(f"{own['waits'] / own[other]:.2f}" if own[other] > base[other] else "")
         rows.append(row)
         print(f"{label}: done", file=sys.stderr)
     head = ["script", "bytes", "deliveries", *(f"{n}, ms best / median" for n in PROGRAMS)]
