@@ -6,3 +6,4 @@ pub mod Memory
 pub mod Obeys
 pub mod Views
 pub mod Tickets
+pub mod Stubs

@@ -1,0 +1,89 @@
+-- A call that answers and changes the book by the rules follows every history that the book shows.
+use Rattle.std.proofs.Common.{◌≡◌, ℕ, ◌-◌, Bool, true, false, cond, List, [], ◌∷◌, length, replicate, sym, refl, ap, ◌∙◌, subst, arith}
+use Rattle.std.proofs.lemmas.List.{length-set, length-replicate}
+use Rattle.groups.specs.State.{State, fresh, old_row, noted, merged, outside}
+use Rattle.groups.specs.History.{History, begun}
+use Rattle.groups.specs.Shows.{ShowsFrom}
+use Rattle.groups.proofs.Shown.{shows_face, write_shows, open_shows, keep_shows, cancel_shows}
+use Rattle.groups.proofs.Viewed.{length-restored}
+use Rattle.histories.specs.Calls.{Call, edits, opens, keeps, cancels}
+use Rattle.histories.specs.Answers.{Answer, accepted}
+use Rattle.histories.specs.Rules.{Held, Rules, answer, says, after, changed, changed_state}
+use Rattle.histories.specs.Histories.{answers, listed, fed, terms, depth_after, Shows, Follows, Called}
+
+-- how many groups are open after a call
+length-noted : {X : Type 0} (gs : List (List X)) (x : X) → length (noted gs x) ≡ length gs
+length-noted [] x = refl
+length-noted (g ∷ gs) x = refl
+
+length-merged : {X : Type 0} (gs : List (List X)) → length (merged gs) ≡ length gs - 1
+length-merged [] = refl
+length-merged (g ∷ []) = refl
+length-merged (g ∷ (h ∷ gs)) = omega arith
+
+length-outside : {X : Type 0} (gs : List (List X)) → length (outside gs) ≡ length gs - 1
+length-outside [] = refl
+length-outside (g ∷ gs) = omega arith
+
+module _ {P E K : Type 0} (R : Rules P E K) where
+  -- no call changes the number of jobs
+  pub length-changed : (s : Held P K) (c : Call E) → length (changed R s c).state.rows ≡ length s.state.rows
+  length-changed s (edits e) = length-set s.state.rows (R.job_of e) (R.next_row s.state.rows e)
+  length-changed s opens = refl
+  length-changed s (keeps mark depth) = refl
+  length-changed s (cancels mark depth) = length-restored s.state.rows s.state.groups
+
+  changed_shows : (first : List P) (s : State P) (c : Call E) (h : History E) → ShowsFrom R.job_of R.next_row first s h → ShowsFrom R.job_of R.next_row first (changed_state R s c) (listed h c)
+  changed_shows first s (edits e) h w = write_shows R.job_of R.next_row first s e h w
+  changed_shows first s opens h w = open_shows R.job_of R.next_row first s h w
+  changed_shows first s (keeps mark depth) h w = keep_shows R.job_of R.next_row first s h w
+  changed_shows first s (cancels mark depth) h w = cancel_shows R.job_of R.next_row first s h w
+
+  pub says_answers : (s : Held P K) (c : Call E) (h : History E) → Shows R s h → says R s c ≡ answers R (terms s) h c
+  says_answers s c h w = ap (λ f. answer R s.fixed s.state.mark s.state.room f c) (shows_face R.job_of R.next_row (replicate (length s.state.rows) R.idle) s.state h w)
+
+  pub after_shows : (s : Held P K) (c : Call E) (h : History E) → Shows R s h → Shows R (after R s c) (fed R (terms s) h c)
+  after_shows s c h w = go (accepted (says R s c)) (accepted (answers R (terms s) h c)) (ap accepted (says_answers s c h w))
+    where
+      go : (a b : Bool) → a ≡ b → Shows R (cond a (changed R s c) s) (cond b (listed h c) h)
+      go true true e = subst (λ n. ShowsFrom R.job_of R.next_row (replicate n R.idle) (changed_state R s.state c) (listed h c)) (sym (length-changed s c)) (changed_shows (replicate (length s.state.rows) R.idle) s.state c h w)
+      go false false e = w
+      go true false e = absurd (cc e)
+      go false true e = absurd (cc e)
+
+  follows : (s : Held P K) (c : Call E) (a : Answer) (s' : Held P K) → a ≡ says R s c → s' ≡ after R s c → Follows R s c a s'
+  follows s c a s' e f h w = (e ∙ says_answers s c h w, subst (λ t. Shows R t (fed R (terms s) h c)) (sym f) (after_shows s c h w))
+
+  -- no call changes the mark
+  mark_after : (s : Held P K) (c : Call E) → (after R s c).state.mark ≡ s.state.mark
+  mark_after s c = go c (accepted (says R s c))
+    where
+      go : (c : Call E) (q : Bool) → (cond q (changed R s c) s).state.mark ≡ s.state.mark
+      go c false = refl
+      go (edits e) true = refl
+      go opens true = refl
+      go (keeps mark depth) true = refl
+      go (cancels mark depth) true = refl
+
+  depth_so : (s : Held P K) (c : Call E) (q : Bool) → length (cond q (changed R s c) s).state.groups ≡ depth_after c q (length s.state.groups)
+  depth_so s (edits e) true = length-noted s.state.groups (old_row s.state.rows (R.job_of e) (R.next_row s.state.rows e))
+  depth_so s (edits e) false = refl
+  depth_so s opens true = omega arith
+  depth_so s opens false = refl
+  depth_so s (keeps mark depth) true = length-merged s.state.groups
+  depth_so s (keeps mark depth) false = refl
+  depth_so s (cancels mark depth) true = length-outside s.state.groups
+  depth_so s (cancels mark depth) false = refl
+
+  pub called : (s : Held P K) (c : Call E) (a : Answer) (s' : Held P K) → a ≡ says R s c → s' ≡ after R s c → Called R s c a s'
+  called s c a s' e f = record {
+    value = e;
+    after = f;
+    shows = follows s c a s' e f;
+    mark = ap (λ (t : Held P K). t.state.mark) f ∙ mark_after s c;
+    depth = ap (λ (t : Held P K). length t.state.groups) f ∙ depth_so s c (accepted (says R s c)) ∙ ap (λ q. depth_after c q (length s.state.groups)) (sym (ap accepted e));
+  }
+
+  -- a new book shows the history in which nothing has happened
+  pub fresh_shows : (s : Held P K) (n mark memory : ℕ) → s.state ≡ fresh n R.idle mark memory → Shows R s begun
+  fresh_shows s n mark memory e = subst (λ t. ShowsFrom R.job_of R.next_row (replicate (length t.rows) R.idle) t begun) (sym e) (ap (λ k. replicate k R.idle) (sym (length-replicate n R.idle)))

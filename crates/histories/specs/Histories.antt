@@ -1,0 +1,63 @@
+-- The history of a book: the calls that still count, and nothing of the book itself.
+use Rattle.std.specs.Prelude.{◌≡◌, ℕ, ◌+◌, ◌-◌, Bool, cond, length, replicate}
+use Rattle.groups.specs.State.{Face}
+use Rattle.groups.specs.History.{History, join, nest, merge, forget, history_face}
+use Rattle.groups.specs.Shows.{ShowsFrom}
+use Rattle.histories.specs.Answers.{Answer, accepted}
+use Rattle.histories.specs.Calls.{Call, edits, opens, keeps, cancels}
+use Rattle.histories.specs.Rules.{Held, Rules, answer, says, after}
+
+-- What a history is told at creation: the number of jobs, the mark, how many records the trail has, and what this kind of book fixes besides.
+pub record Terms (K : Type 0) : Type 0 where
+  pub jobs : ℕ
+  pub mark : ℕ
+  pub room : ℕ
+  pub fixed : K
+
+-- What the history of a book was told.
+abbrev pub terms : {P K : Type 0} → Held P K → Terms K
+terms b = record { jobs = length b.state.rows; mark = b.state.mark; room = b.state.room; fixed = b.fixed }
+
+-- What an accepted call does to the lists.
+abbrev pub listed : {E : Type 0} → History E → Call E → History E
+listed h (edits e) = join h e
+listed h opens = nest h
+listed h (keeps mark depth) = merge h
+listed h (cancels mark depth) = forget h
+
+-- How many groups are open after a call, by whether it is accepted.
+abbrev pub depth_after : {E : Type 0} → Call E → (taken : Bool) → ℕ → ℕ
+depth_after (edits e) taken depth = depth
+depth_after opens taken depth = cond taken (depth + 1) depth
+depth_after (keeps mark d) taken depth = cond taken (depth - 1) depth
+depth_after (cancels mark d) taken depth = cond taken (depth - 1) depth
+
+module _ {P E K : Type 0} (R : Rules P E K) where
+  -- The rows that the surviving calls draw on idle rows, the number of open groups, and how many calls these hold.
+  abbrev pub face_of : Terms K → History E → Face P
+  face_of t h = history_face R.job_of R.next_row (replicate t.jobs R.idle) h
+
+  -- A history's answer goes by its own rows and lists.
+  abbrev pub answers : Terms K → History E → Call E → Answer
+  answers t h c = answer R t.fixed t.mark t.room (face_of t h) c
+
+  -- A history fed a call; a refused call changes no list.
+  abbrev pub fed : Terms K → History E → Call E → History E
+  fed t h c = cond (accepted (answers t h c)) (listed h c) h
+
+  -- A book shows a history: same rows, same depth, and what the trail would undo.
+  abbrev pub Shows : Held P K → History E → Type 0
+  Shows s h = ShowsFrom R.job_of R.next_row (replicate (length s.state.rows) R.idle) s.state h
+
+  -- Whatever history the book shows before a call: it answers as that history, and shows that history fed the call after.
+  abbrev pub Follows : Held P K → Call E → Answer → Held P K → Type 0
+  Follows s c a s' = (h : History E) → Shows s h → (a ≡ answers (terms s) h c) × Shows s' (fed (terms s) h c)
+
+  -- A call made on a book, with its answer: it answers and changes the book by the rules, and so follows its history. What tickets
+  -- go by stands by itself: the mark, which stays, and how many groups are open.
+  pub record Called (s : Held P K) (c : Call E) (a : Answer) (s' : Held P K) : Type 0 where
+    pub value : a ≡ says R s c
+    pub after : s' ≡ after R s c
+    pub shows : Follows s c a s'
+    pub mark : s'.state.mark ≡ s.state.mark
+    pub depth : length s'.state.groups ≡ depth_after c (accepted a) (length s.state.groups)
