@@ -5,20 +5,21 @@ use Rattle.std.proofs.lemmas.List.{length-take-le, length-append, length-drop, d
 use borrow.Rule.Slice.PartMut.{put_mid, post_of}
 use Rattle.carriers.specs.Meaning.{Carried}
 use Rattle.exchange.specs.declared.record.RunRecord.{RunRecord}
-use Rattle.rows.specs.Waiting.{Waiting}
-use Rattle.groups.specs.State.{State}
-use Rattle.book.specs.Events.{Event, Life, begins, lives}
-use Rattle.book.specs.Creation.{new_book}
-use Rattle.book.specs.Lent.{Lent, lent}
+use Rattle.lives.specs.Events.{begins, lives}
+use Rattle.store.specs.Creation.{created, new_book}
+use Rattle.scripts.specs.Events.{BookEvent, LifeOfBook}
+use Rattle.scripts.specs.Lent.{Lent, lent}
 use Rattle.book.specs.Moments.{answer_at, seen_at, written_by, AreEvents, nothing, then, Lived}
 use Rattle.book.specs.Performing.{Performed}
-use Rattle.book.specs.Snapshots.{snapshot_view}
-use Rattle.book.specs.Subjects.{of_book, view_of}
+use Rattle.store.specs.Snapshots.{snapshot_view}
+use Rattle.histories.specs.Subjects.{of_book, view_of}
 use Rattle.book.specs.declared.life.call.Answer.{Answer}
 use Rattle.book.specs.declared.life.call.Call.{Call}
 use Rattle.book.specs.declared.life.moment.Moment.{Moment}
-use Rattle.book.specs.declared.snapshot.Snapshot.{Snapshot}
-use Rattle.book.proofs.Lives.{law_of_lives}
+use Rattle.store.specs.declared.snapshot.Snapshot.{Snapshot}
+use Rattle.book.proofs.Lives.{law_of_plain_books}
+use Rattle.store.specs.Plain.{plain}
+use Rattle.store.specs.Books.{PlainBook}
 
 -- bytes that are written behind others
 written_more : (w b : ℕ) (xs ys : List ℕ) → w ≤ length xs → take (w + b) (take w xs ++ ys) ≡ take w xs ++ take b ys
@@ -29,17 +30,17 @@ unwritten_less w b xs ys l = ap (λ n. drop (n + b) (take w xs ++ ys)) (sym (len
 
 module _ (jobs mark memory : ℕ) (before : Lent) where
   -- A book is in a state after calls that have happened, with moments for them; so many answer bytes are written.
-  pub record Alive (ks : List Call) (ms : List Moment) (s : State Waiting) (records : List RunRecord) (carrier : Carried) (answers : List ℕ) (written : ℕ) : Type 0 where
-    pub events : List Event
+  pub record Alive (ks : List Call) (ms : List Moment) (s : PlainBook) (records : List RunRecord) (carrier : Carried) (answers : List ℕ) (written : ℕ) : Type 0 where
+    pub events : List BookEvent
     pub happened : AreEvents before ks (map answer_at ms) events (take written answers) (lent records carrier (drop written answers))
-    pub life : Life of_book (new_book jobs mark memory) events (map seen_at ms) s
+    pub life : LifeOfBook (new_book jobs mark memory) events (map seen_at ms) s
     pub inside : written ≤ length answers
 
-  pub alive_next : {ks : List Call} {ms : List Moment} {s s' : State Waiting} {records is : List RunRecord} {carrier after : Carried} {answers : List ℕ} {written : ℕ}
+  pub alive_next : {ks : List Call} {ms : List Moment} {s s' : PlainBook} {records is : List RunRecord} {carrier after : Carried} {answers : List ℕ} {written : ℕ}
       → Alive ks ms s records carrier answers written
       → (k : Call) (a : Answer) (rest : List ℕ) (seen : Snapshot)
       → Performed s (lent records carrier (drop written answers)) k a s' (lent is after rest)
-      → written_by a ≤ length rest → snapshot_view seen ≡ view_of of_book s'
+      → written_by a ≤ length rest → snapshot_view seen ≡ view_of (of_book plain) s'
       → Alive (ks ++ k ∷ []) (ms ++ record { answer = a; seen = seen } ∷ []) s' is after (take written answers ++ rest) (written + written_by a)
   alive_next {ks} {ms} {s} {s'} {records} {is} {carrier} {after} {answers} {written} alive k a rest seen p fits shown =
       let moment : Moment = record { answer = a; seen = seen } in
@@ -54,18 +55,18 @@ module _ (jobs mark memory : ℕ) (before : Lent) where
             (subst (λ bs. AreEvents before (ks ++ k ∷ []) (map answer_at ms ++ a ∷ []) (alive.events ++ p.event ∷ []) (take written answers ++ take (written_by a) rest) (lent is after bs)) less
             (then alive.happened p.happens)));
         life =
-            subst (λ vs. Life of_book (new_book jobs mark memory) (alive.events ++ p.event ∷ []) vs s') (sym (map-append seen_at ms (moment ∷ [])))
-            (subst (λ v. Life of_book (new_book jobs mark memory) (alive.events ++ p.event ∷ []) (map seen_at ms ++ v ∷ []) s') (sym shown)
+            subst (λ vs. LifeOfBook (new_book jobs mark memory) (alive.events ++ p.event ∷ []) vs s') (sym (map-append seen_at ms (moment ∷ [])))
+            (subst (λ v. LifeOfBook (new_book jobs mark memory) (alive.events ++ p.event ∷ []) (map seen_at ms ++ v ∷ []) s') (sym shown)
             (lives alive.life p.does));
         inside = omega (arith, fits, length-take-le written answers alive.inside, length-append (take written answers) rest);
       }
 
   -- at the end the law tells the history
-  pub alive_lived : {ks : List Call} {ms : List Moment} {s : State Waiting} {records : List RunRecord} {carrier : Carried} {answers : List ℕ} {written : ℕ} (first : Snapshot)
-      → snapshot_view first ≡ view_of of_book (new_book jobs mark memory)
+  pub alive_lived : {ks : List Call} {ms : List Moment} {s : PlainBook} {records : List RunRecord} {carrier : Carried} {answers : List ℕ} {written : ℕ} (first : Snapshot)
+      → snapshot_view first ≡ view_of (of_book plain) (new_book jobs mark memory)
       → Alive ks ms s records carrier answers written → Lived jobs mark memory ks first ms before (lent records carrier answers)
   alive_lived {s = s} {records = records} {carrier = carrier} {answers = answers} {written = written} first seen alive =
-      let law = law_of_lives jobs mark memory in
+      let law = law_of_plain_books (created jobs) mark memory tt in
       let told = law.1 alive.events _ _ alive.life in
       record {
         events = alive.events;
@@ -80,7 +81,7 @@ module _ (jobs mark memory : ℕ) (before : Lent) where
         lent = ap (lent records carrier) (sym (take-append-drop written answers));
       }
 
-pub alive_first : (jobs mark memory : ℕ) (records : List RunRecord) (carrier : Carried) (answers : List ℕ) (s : State Waiting) → s ≡ new_book jobs mark memory
+pub alive_first : (jobs mark memory : ℕ) (records : List RunRecord) (carrier : Carried) (answers : List ℕ) (s : PlainBook) → s ≡ new_book jobs mark memory
     → Alive jobs mark memory (lent records carrier answers) [] [] s records carrier answers 0
 alive_first jobs mark memory records carrier answers s e = rw e (record { events = []; happened = nothing; life = begins; inside = omega arith })
 

@@ -1,37 +1,41 @@
 -- A book's grants are those that the rule of lawful grants allows.
 use Rattle.std.proofs.Common.{◌≡◌, Bool, true, false, cond, not, ◌||◌, leb, ltb, length, refl, arith}
 use Rattle.std.proofs.lemmas.Bool.{or_parts, not-false, leb-false, ltb-false, lt-leb, le-ltb}
-use Rattle.rows.specs.Waiting.{Waiting, at, among}
+use Rattle.rows.specs.Waiting.{at, among}
 use Rattle.tables.specs.Grants.{Grant, Allowed}
 use Rattle.tables.proofs.Laws.{who_waits_is_a_job}
-use Rattle.groups.specs.State.{State, face, full}
-use Rattle.book.specs.Answers.{Answer, done, refusal, says}
-use Rattle.book.specs.declared.fault.BookFault.{BookFault}
-use Rattle.book.specs.declared.fault.BookFault.TheVariants.{NoSuchJob, TrailFull, GranterBlocked, NoSuchWait}
+use Rattle.groups.specs.State.{face, full}
+use Rattle.histories.specs.Answers.{Answer, done}
+use Rattle.store.specs.Answers.{refusal}
+use Rattle.histories.specs.Rules.{says}
+use Rattle.store.specs.declared.fault.BookFault.{BookFault}
+use Rattle.store.specs.declared.fault.BookFault.TheVariants.{NoSuchJob, TrailFull, GranterBlocked, NoSuchWait}
 use Rattle.book.specs.Law.{grant_call, GrantsAreAllowed}
+use Rattle.store.specs.Plain.{plain}
+use Rattle.store.specs.Books.{PlainBook}
 
 -- a check that is passed
 passed : (q : Bool) (f : BookFault) (a : Answer) → cond q (refusal f) a ≡ done → (q ≡ false) × (a ≡ done)
 passed true f a h = absurd (cc h)
 passed false f a h = (refl, h)
 
-module _ (s : State Waiting) (g : Grant) where
+module _ (s : PlainBook) (g : Grant) where
   abbrev granter_outside : Bool
-  granter_outside = leb (length s.rows) g.granter
+  granter_outside = leb (length s.state.rows) g.granter
 
   abbrev waiter_outside : Bool
-  waiter_outside = leb (length s.rows) g.waiter
+  waiter_outside = leb (length s.state.rows) g.waiter
 
   abbrev blocked : Bool
-  blocked = ltb 0 (at s.rows g.granter).need
+  blocked = ltb 0 (at s.state.rows g.granter).need
 
   abbrev waits : Bool
-  waits = among g.granter (at s.rows g.waiter).targets
+  waits = among g.granter (at s.state.rows g.waiter).targets
 
   abbrev held : Bool
-  held = full s.room (face s)
+  held = full s.state.room (face s.state)
 
-  accepted : says s (grant_call g) ≡ done → Allowed s.rows g × (held ≡ false)
+  accepted : says plain s (grant_call g) ≡ done → Allowed s.state.rows g × (held ≡ false)
   accepted h =
       let jobs = passed (granter_outside || waiter_outside) NoSuchJob (cond blocked (refusal GranterBlocked) (cond (not waits) (refusal NoSuchWait) (cond held (refusal TrailFull) done))) h in
       let active = passed blocked GranterBlocked (cond (not waits) (refusal NoSuchWait) (cond held (refusal TrailFull) done)) jobs.1 in
@@ -42,10 +46,10 @@ module _ (s : State Waiting) (g : Grant) where
         room.0,
       )
 
-  accepts : Allowed s.rows g × (held ≡ false) → says s (grant_call g) ≡ done
+  accepts : Allowed s.state.rows g × (held ≡ false) → says plain s (grant_call g) ≡ done
   accepts a =
       let granter : granter_outside ≡ false = lt-leb _ _ a.0.job in
-      let waiter : waiter_outside ≡ false = lt-leb _ _ (who_waits_is_a_job s.rows g.waiter g.granter a.0.waits) in
+      let waiter : waiter_outside ≡ false = lt-leb _ _ (who_waits_is_a_job s.state.rows g.waiter g.granter a.0.waits) in
       let active : blocked ≡ false = le-ltb _ _ (omega (arith, a.0.active)) in
       rw (granter, waiter, active, a.0.waits, a.1) refl
 

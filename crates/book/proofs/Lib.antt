@@ -1,11 +1,3 @@
 pub mod Alive
-pub mod Following
 pub mod Granting
 pub mod Lives
-pub mod Lawful
-pub mod Reading
-pub mod Rounds
-pub mod Seen
-pub mod Simulated
-pub mod Told
-pub mod Working

@@ -6,30 +6,33 @@ use Rattle.groups.specs.declared.store.Ending.{Ending}
 use Rattle.groups.specs.declared.store.Stub.{Stub}
 use Rattle.rows.specs.Waiting.{Waiting}
 use Rattle.groups.specs.History.{History, begun}
-use Rattle.groups.specs.State.{State}
 use Rattle.detection.specs.declared.fault.DetectionFault.{DetectionFault}
 use Rattle.detection.specs.declared.verdict.Detection.{Detection}
-use Rattle.book.specs.Calls.{Edit, edits, opens, ends}
-use Rattle.book.specs.Events.{Event, made, detected, scripted, Life}
-use Rattle.book.specs.Creation.{new_book, new_terms}
-use Rattle.book.specs.Lent.{Lent}
-use Rattle.book.specs.ScriptRuns.{script_written}
-use Rattle.book.specs.Snapshots.{snapshot_view}
-use Rattle.book.specs.Subjects.{of_book, of_history, View, view_of}
-use Rattle.book.specs.Views.{edit_of, told, told_stub, told_ending_by}
-use Rattle.book.specs.declared.fault.BookFault.{BookFault}
-use Rattle.book.specs.declared.fault.RefusedStub.{RefusedStub}
+use Rattle.store.specs.Calls.{Edit}
+use Rattle.histories.specs.Calls.{edits, opens, ends}
+use Rattle.lives.specs.Events.{made, detected}
+use Rattle.scripts.specs.Events.{BookEvent, scripted, LifeOfBook, LifeOfHistory}
+use Rattle.store.specs.Creation.{new_book, new_terms}
+use Rattle.scripts.specs.Lent.{Lent}
+use Rattle.scripts.specs.ScriptRuns.{script_written}
+use Rattle.store.specs.Snapshots.{snapshot_view}
+use Rattle.histories.specs.Subjects.{of_history, View, view_of}
+use Rattle.store.specs.Views.{edit_of, told, told_stub, told_ending_by}
+use Rattle.store.specs.declared.fault.BookFault.{BookFault}
+use Rattle.store.specs.declared.fault.RefusedStub.{RefusedStub}
 use Rattle.book.specs.declared.life.call.Answer.{Answer}
 use Rattle.book.specs.declared.life.call.Answer.TheVariants.{Opened, Ended, Detected, Edited, Ran}
 use Rattle.book.specs.declared.life.call.Call.{Call}
 use Rattle.book.specs.declared.life.call.Call.TheVariants.{Open, End, Detect, Edit as Make, Run}
 use Rattle.book.specs.declared.life.moment.Moment.{Moment}
-use Rattle.book.specs.declared.snapshot.Snapshot.{Snapshot}
-use Rattle.book.specs.declared.script.fault.FinishedScript.{FinishedScript}
-use Rattle.book.specs.declared.script.fault.StoppedScript.{StoppedScript}
+use Rattle.store.specs.declared.snapshot.Snapshot.{Snapshot}
+use Rattle.scripts.specs.declared.fault.FinishedScript.{FinishedScript}
+use Rattle.scripts.specs.declared.fault.StoppedScript.{StoppedScript}
+use Rattle.store.specs.Plain.{plain}
+use Rattle.store.specs.Books.{PlainBook}
 
 -- What was seen at a moment.
-abbrev pub seen_at : Moment → View
+abbrev pub seen_at : Moment → View Waiting
 seen_at m = snapshot_view m.seen
 
 -- What the call of a moment answered.
@@ -45,7 +48,7 @@ written_by (Edited r) = 0
 written_by (Ran r) = script_written r
 
 -- A call with its answer is an event; `before` is what is lent to it, and `after` what is left.
-pub data IsEvent : (before : Lent) → Call → Answer → Event → (after : Lent) → Type 0 where
+pub data IsEvent : (before : Lent) → Call → Answer → BookEvent → (after : Lent) → Type 0 where
   opening : {l : Lent} {r : Result Stub BookFault} → IsEvent l Open (Opened r) (made opens (told_stub r)) l
   ending : {l : Lent} {e : Ending} {k : Stub} {r : Result (Unit {0}) RefusedStub} → IsEvent l (End e k) (Ended r) (made (ends e k.mark k.depth) (told_ending_by r)) l
   detecting : {l : Lent} {job : ℕ} {r : Result Detection DetectionFault} {is : List RunRecord} {after : Carried}
@@ -59,9 +62,9 @@ unwritten a l = record { records = l.records; carrier = l.carrier; bytes = drop 
 
 -- The calls of a life, one after the other, with what is lent to each: what the one before has left. All the bytes written come one
 -- behind the other.
-pub data AreEvents (first : Lent) : List Call → List Answer → List Event → (bytes : List ℕ) → Lent → Type 0 where
+pub data AreEvents (first : Lent) : List Call → List Answer → List BookEvent → (bytes : List ℕ) → Lent → Type 0 where
   nothing : AreEvents first [] [] [] [] first
-  then : {ks : List Call} {rs : List Answer} {es : List Event} {bytes : List ℕ} {l m : Lent} {k : Call} {a : Answer} {e : Event}
+  then : {ks : List Call} {rs : List Answer} {es : List BookEvent} {bytes : List ℕ} {l m : Lent} {k : Call} {a : Answer} {e : BookEvent}
       → AreEvents first ks rs es bytes l → IsEvent l k a e m
       → AreEvents first (ks ++ k ∷ []) (rs ++ a ∷ []) (es ++ e ∷ []) (bytes ++ take (written_by a) m.bytes) (unwritten a m)
 
@@ -69,15 +72,15 @@ pub data AreEvents (first : Lent) : List Call → List Answer → List Event →
 -- history that was told the same at creation, both by the rules; and what is given back as seen was seen of them, at creation and after
 -- each call.
 pub record Lived (jobs mark memory : ℕ) (calls : List Call) (first : Snapshot) (moments : List Moment) (before after : Lent) : Type 0 where
-  pub events : List Event
+  pub events : List BookEvent
   pub bytes : List ℕ
   pub left : Lent
   pub happened : AreEvents before calls (map answer_at moments) events bytes left
-  pub book : State Waiting
-  pub lived : Life of_book (new_book jobs mark memory) events (map seen_at moments) book
+  pub book : PlainBook
+  pub lived : LifeOfBook (new_book jobs mark memory) events (map seen_at moments) book
   pub history : History Edit
-  pub follows : Life (of_history (new_terms jobs mark memory)) begun events (map seen_at moments) history
+  pub follows : LifeOfHistory (new_terms jobs mark memory) begun events (map seen_at moments) history
   -- of the book the same is seen, by the law of lives
-  pub created : snapshot_view first ≡ view_of (of_history (new_terms jobs mark memory)) begun
+  pub created : snapshot_view first ≡ view_of (of_history plain (new_terms jobs mark memory)) begun
   -- what is left of the lent memory: the bytes written stand before those that were not
   pub lent : after ≡ record { records = left.records; carrier = left.carrier; bytes = bytes ++ left.bytes }

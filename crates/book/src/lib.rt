@@ -1,19 +1,15 @@
-// The wait book: which job waits for which, with groups of edits that are kept or cancelled.
+// The wait book, as its clients have it: a store whose groups end by tickets alone, with scripts, and whole lives.
 #![tactic(auto)]
 
-mod calls;
-mod fault;
+mod client;
 mod life;
-mod script;
-mod snapshot;
-mod store;
+mod ticket;
 
-pub use calls::Edit;
-pub use fault::{BookFault, RefusedEnding, RefusedStub};
-pub use groups::{DEPTH_MAX, Ending, Old, Stub, TRAIL_MAX, Ticket};
+pub use client::Book;
+pub use groups::{DEPTH_MAX, Ending, Old, Stub, TRAIL_MAX};
 pub use life::{Answer, Call, Creation, Moment, TooFewMoments, live};
 pub use rows::{PlainRow, TARGETS_MAX};
-pub use script::{FinishedScript, SCRIPT_MAX, ScriptFault, StoppedScript};
-pub use snapshot::Snapshot;
-pub use store::Book;
+pub use scripts::{FinishedScript, SCRIPT_MAX, ScriptFault, StoppedScript};
+pub use store::{BookFault, Edit, RefusedStub, Snapshot};
 pub use tables::{JOBS_MAX, Table, TwoWayTable, WAITS_MAX};
+pub use ticket::{RefusedEnding, Ticket};

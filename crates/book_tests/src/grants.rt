@@ -1,7 +1,6 @@
 // Grants: what they leave, and the refusals in their order.
 use crate::common::*;
 use book::{Book, Table};
-use std::test::Fail;
 
 // A grant takes its wait away, and the one that meets the last need takes the others away with it.
 #[test]
@@ -23,7 +22,7 @@ fn last_need_clears_the_waits(rt: HostRuntime) {
 
 // In a book of 4 jobs, in which 0 waits for 1 and 2, and 1 waits for 0, and a group without a trail is open.
 #[test]
-fn refuses_in_order(rt: HostRuntime) -> Result<(), Fail> {
+fn refuses_in_order(rt: HostRuntime) {
     // granter, waiter, and the number of the refusal
     let cases = [
         (4, 0, 1),
@@ -37,20 +36,18 @@ fn refuses_in_order(rt: HostRuntime) -> Result<(), Fail> {
         (3, 3, 7),
         (2, 0, 5),
     ];
-    let mut memory = trail::<1>();
-    let mut book = Book::new(4, 7, &mut memory[..0]);
-    assert_eq!(rt; told(book.request(0, 1, &[1, 2])), 0);
-    assert_eq!(rt; told(book.request(1, 1, &[0])), 0);
-    let ticket = opened(&mut book)?;
-    // asserted after the group has ended, since its ticket must be handed back on every way out
-    let mut right = true;
     for (granter, waiter, number) in cases {
-        right = told(book.grant(granter, waiter)) == number && right;
-        right = is_row(&book, 0, 1, &[1, 2]) && is_row(&book, 1, 1, &[0]) && right;
+        let mut memory = trail::<1>();
+        let mut book = Book::new(4, 7, &mut memory[..0]);
+        let first = told(book.request(0, 1, &[1, 2]));
+        let second = told(book.request(1, 1, &[0]));
+        let ticket = book.open().unwrap();
+        let answer = told(book.grant(granter, waiter));
+        let same = is_row(&book, 0, 1, &[1, 2]) && is_row(&book, 1, 1, &[0]);
+        book.keep(ticket).unwrap();
+        assert!(rt; first == 0 && second == 0 && same);
+        assert_eq!(rt; answer, number);
+        assert_eq!(rt; told(book.grant(2, 0)), 0);
+        assert!(rt; is_row(&book, 0, 0, &[]));
     }
-    assert_eq!(rt; ended(book.keep(ticket)), 0);
-    assert!(rt; right);
-    assert_eq!(rt; told(book.grant(2, 0)), 0);
-    assert!(rt; is_row(&book, 0, 0, &[]));
-    Ok(())
 }

@@ -1,7 +1,6 @@
 // Requests: the limit of the targets, and the refusals in their order.
 use crate::common::*;
 use book::{Book, BookFault};
-use std::test::Fail;
 
 // Sixteen targets, and one more.
 const MANY: [u8; 17] = [0, 1, 2, 3, 4, 5, 6, 7, 8, 9, 10, 11, 12, 13, 14, 15, 16];
@@ -27,7 +26,7 @@ fn refused(answer: Result<(), BookFault>, number: u8, value: Option<usize>) -> b
 
 // In a book of 4 jobs, in which 1 waits for 0 and a group without a trail is open: the first check that fails tells.
 #[test]
-fn refuses_in_order(rt: HostRuntime) -> Result<(), Fail> {
+fn refuses_in_order(rt: HostRuntime) {
     // job, need and targets of a request, and the number and value of its refusal
     let cases: [(usize, u8, &[u8], u8, Option<usize>); 13] = [
         (4, 0, &[], 1, None),
@@ -44,17 +43,15 @@ fn refuses_in_order(rt: HostRuntime) -> Result<(), Fail> {
         (0, 3, &[1, 2, 4], 4, Some(2)),
         (0, 1, &[1], 5, None),
     ];
-    let mut memory = trail::<1>();
-    let mut book = Book::new(4, 7, &mut memory[..0]);
-    assert_eq!(rt; told(book.request(1, 1, &[0])), 0);
-    let ticket = opened(&mut book)?;
-    // asserted after the group has ended, since its ticket must be handed back on every way out
-    let mut right = true;
     for (job, need, targets, number, value) in cases {
-        right = refused(book.request(job, need, targets), number, value) && right;
-        right = is_row(&book, 0, 0, &[]) && is_row(&book, 1, 1, &[0]) && right;
+        let mut memory = trail::<1>();
+        let mut book = Book::new(4, 7, &mut memory[..0]);
+        let first = told(book.request(1, 1, &[0]));
+        let ticket = book.open().unwrap();
+        let answer = book.request(job, need, targets);
+        let same = is_row(&book, 0, 0, &[]) && is_row(&book, 1, 1, &[0]);
+        book.keep(ticket).unwrap();
+        assert!(rt; first == 0 && same);
+        assert!(rt; refused(answer, number, value));
     }
-    assert_eq!(rt; ended(book.keep(ticket)), 0);
-    assert!(rt; right);
-    Ok(())
 }

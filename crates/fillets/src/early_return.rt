@@ -1,7 +1,8 @@
 // A fillet that may fail while its group is open.
 ghost use Rattle.std.specs.Prelude.{◌≡◌, is_ok, if◌then◌else◌};
-ghost use Rattle.book.specs.Calls.{changed};
+ghost use Rattle.histories.specs.Rules.{changed};
 ghost use Rattle.fillets.specs.Fillets.{waits_for_faces, told_fillet, fillet_comes};
+ghost use Rattle.store.specs.Plain.{plain};
 
 use crate::fillet::{FACES, FilletFault};
 use book::Book;
@@ -15,15 +16,15 @@ pub fn round_edge(
     thin: bool,
 ) -> Result<(), FilletFault>
     ensures value { told_fillet result ≡ fillet_comes book.old thin (waits_for_faces fillet faces.now) }
-    ensures after { book.new ≡ (if is_ok result then changed book.old (waits_for_faces fillet faces.now) else book.old) }
+    ensures after { book.new ≡ (if is_ok result then changed plain book.old (waits_for_faces fillet faces.now) else book.old) }
 {
     let ticket = book.open()?;
     let asked = book.request(fillet, FACES, faces);
     if thin {
-        book.cancel(ticket)?;
+        book.cancel(ticket).unwrap();
         return Err(FilletFault::TooThin);
     }
-    book.keep(ticket)?;
+    book.keep(ticket).unwrap();
     asked?;
     Ok(())
 }

@@ -2,7 +2,7 @@
 ghost use Rattle.std.specs.Prelude.{◌≡◌};
 ghost use Rattle.fillets.specs.declared.fillet.FilletFault.TheVariants.{InBook};
 
-use book::{BookFault, RefusedEnding};
+use book::BookFault;
 
 // A fillet waits for both faces at its edge: a count, and no code.
 pub const FACES: u8 = 2;
@@ -14,20 +14,11 @@ pub enum FilletFault {
     InBook(BookFault),
 }
 
-// Written by hand, as the next one is: a derive would not promise which fault comes out.
+// Written by hand: a derive would not promise which fault comes out.
 impl From<BookFault> for FilletFault {
     ghost from_gives = { λ x y. y ≡ InBook x };
 
     fn from(fault: BookFault) -> FilletFault {
         FilletFault::InBook(fault)
-    }
-}
-
-// A ticket that the book refuses is given up; its fault goes on.
-impl From<RefusedEnding> for FilletFault {
-    ghost from_gives = { λ x y. y ≡ InBook x.fault };
-
-    fn from(refused: RefusedEnding) -> FilletFault {
-        FilletFault::InBook(refused.give_up())
     }
 }

@@ -18,11 +18,11 @@ pub fn round_twice(
 {
     let ticket = book.open()?;
     let asked = book.request(first, FACES, faces);
-    book.keep(ticket)?;
+    book.keep(ticket).unwrap();
     asked?;
     let ticket = book.open()?;
     let tried = book.request(second, FACES, faces);
-    book.cancel(ticket)?;
+    book.cancel(ticket).unwrap();
     tried?;
     Ok(())
 }

@@ -5,5 +5,4 @@ pub mod Shows
 pub mod Memory
 pub mod Obeys
 pub mod Views
-pub mod Tickets
 pub mod Stubs

@@ -3,6 +3,4 @@
 
 mod store;
 
-pub use store::{
-    DEPTH_MAX, Ending, Groups, Old, ROWS, Returned, Stub, TRAIL_MAX, Ticket, TrailFull,
-};
+pub use store::{DEPTH_MAX, Ending, Groups, Old, ROWS, Stub, TRAIL_MAX, TrailFull};

@@ -1,6 +1,5 @@
 // The rows, the trail and the open groups.
 mod calls;
-mod owned;
 
 use arrayvec::ArrayVec;
 use containers::{Full, Stack};
@@ -32,13 +31,7 @@ impl From<Full> for TrailFull {
     }
 }
 
-// The right to end a group: whoever has it must hand it back. It can be neither copied nor let go.
-pub struct Ticket {
-    mark: u16,
-    depth: u8,
-}
-
-// What a ticket tells. Whoever has it has no right to end a group.
+// Which group an ending is meant for, by the mark of its groups and by how many of them are open with it.
 #[derive(Clone, Copy, Drop, PartialEq, Eq, Debug)]
 pub struct Stub {
     pub mark: u16,
@@ -52,13 +45,8 @@ pub enum Ending {
     Cancel,
 }
 
-// A ticket that an ending has refused: it is taken out again, or given up.
-pub struct Returned {
-    ticket: Ticket,
-}
-
 // The rows; the trail, old rows in lent memory; where each open group's part of the trail begins, the innermost last; and the
-// mark of the tickets.
+// mark of the stubs.
 #[derive(Drop)]
 pub struct Groups<'a, P> {
     rows: [P; ROWS],

@@ -1,9 +1,11 @@
 // What the tests share: scripts run on a book, with their ends told by numbers, as the rules tell them.
-use book::{Book, FinishedScript, Old, PlainRow, RefusedEnding, StoppedScript, Table, Ticket};
+ghost use Rattle.std.specs.Prelude.{◌≡◌, length};
+ghost use Rattle.histories.specs.Rules.{SameGroups};
+
+use book::{Book, FinishedScript, Old, PlainRow, StoppedScript, Table};
 use carriers::{Carrier, Kind, Message, QueueCarrier, Wait};
 use detection::RunRecord;
 use std::process::Abort;
-use std::test::Fail;
 
 // How many jobs the books have.
 pub const JOBS: usize = 4;
@@ -115,7 +117,9 @@ fn untouched() -> RunRecord {
 }
 
 // Runs a script.
-pub fn run(book: &mut Book, script: &[u8], lending: Lending) -> Left {
+pub fn run(book: &mut Book, script: &[u8], lending: Lending) -> Left
+    ensures groups { SameGroups book.old book.new }
+{
     let mut bytes = [UNWRITTEN; SPACE];
     let mut records = [untouched(); JOBS];
     let mut cells = [message(); CELLS];
@@ -147,7 +151,9 @@ pub fn ends(
     lending: Lending,
     end: End,
     answers: &[u8],
-) {
+)
+    ensures groups { SameGroups book.old book.new }
+{
     let depth = book.depth();
     let left = run(book, script, lending);
     assert_eq!(rt; left.end, end, "at {script:?}");
@@ -164,14 +170,4 @@ pub fn ends(
 // A job's row has this need, and these targets and no others.
 pub fn is_row(book: &Book, job: usize, need: u8, targets: &[u8]) -> bool {
     book.need(job) == need && book.targets(job).eq(targets.iter().copied())
-}
-
-// The ticket of an opening.
-pub fn opened(book: &mut Book) -> Result<Ticket, Fail> {
-    book.open().map_err(|_| Fail::new("no group was opened"))
-}
-
-// The number of an ending's refusal, and 0 where it is accepted; the ticket that comes back is given up.
-pub fn ended(answer: Result<(), RefusedEnding>) -> u8 {
-    answer.map_or_else(|refused| refused.give_up().number(), |()| 0)
 }

@@ -1,9 +1,11 @@
 // Each fault at the first, a middle and the last command.
+ghost use Rattle.std.specs.Prelude.{◌≡◌, length};
+ghost use Rattle.histories.specs.Rules.{SameGroups};
+
 use crate::common::*;
 use arrayvec::ArrayVec;
 use book::Book;
 use std::process::Abort;
-use std::test::Fail;
 
 // A script, made of parts.
 type Script = ArrayVec<u8, 64>;
@@ -32,7 +34,9 @@ fn end_behind(before: &[u8], number: u8, layer: u8, value: Option<usize>) -> End
 
 // The command comes first, between detections, and last: those before it are made, and those after it are not. The detections are
 // from job 2, which nothing waits for.
-fn stops_anywhere(rt: &impl Abort, book: &mut Book, stopping: Stopping) {
+fn stops_anywhere(rt: &impl Abort, book: &mut Book, stopping: Stopping)
+    ensures groups { SameGroups book.old book.new }
+{
     let (command, number, layer, value) = stopping;
     let places: [(&[u8], &[u8]); 3] = [
         (b"", b"D\x02D\x02"),
@@ -73,17 +77,18 @@ const STOPPED: [Stopping<'static>; 21] = [
 ];
 
 #[test]
-fn first_fault_stops_a_script(rt: HostRuntime) -> Result<(), Fail> {
+fn first_fault_stops_a_script(rt: HostRuntime) {
     let mut memory = trail::<1>();
     let mut book = Book::new(JOBS, 7, &mut memory[..0]);
     assert!(rt; book.request(1, 1, &[0]).is_ok());
-    let ticket = opened(&mut book)?;
     for stopping in STOPPED {
+        let Ok(ticket) = book.open() else {
+            panic!(rt; "no group was opened");
+        };
         stops_anywhere(&rt, &mut book, stopping);
+        book.keep(ticket).unwrap();
     }
-    assert_eq!(rt; ended(book.keep(ticket)), 0);
     assert!(rt; is_row(&book, 0, 0, &[]) && is_row(&book, 1, 1, &[0]));
-    Ok(())
 }
 
 // A command that the script's end cuts off after each of its bytes but the last.

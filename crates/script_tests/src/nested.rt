@@ -1,12 +1,14 @@
 // Groups of a script, and those of its book.
+ghost use Rattle.std.specs.Prelude.{◌≡◌, length};
+ghost use Rattle.histories.specs.Rules.{SameGroups};
+
 use crate::common::*;
 use book::{Book, DEPTH_MAX};
 use std::process::Abort;
-use std::test::Fail;
 
 // All eight are cancelled. A group of the book's own is among the eight, and stays open.
 #[test]
-fn ninth_opening_is_too_deep(rt: HostRuntime) -> Result<(), Fail> {
+fn ninth_opening_is_too_deep(rt: HostRuntime) {
     let alone: [(&[u8], End); 4] = [
         (b"OOOOOOOO", End::Finished(8, 8, 0)),
         (b"OOOOOOOOO", End::Stopped(8, 1, 8, 8, 0)),
@@ -22,31 +24,35 @@ fn ninth_opening_is_too_deep(rt: HostRuntime) -> Result<(), Fail> {
     for (script, end) in alone {
         ends(&rt, &mut book, script, ENOUGH, end, b"");
     }
-    let ticket = opened(&mut book)?;
     for (script, end) in inside {
+        let Ok(ticket) = book.open() else {
+            panic!(rt; "no group was opened");
+        };
         ends(&rt, &mut book, script, ENOUGH, end, b"");
+        book.keep(ticket).unwrap();
     }
-    assert_eq!(rt; ended(book.keep(ticket)), 0);
-    Ok(())
 }
 
 // Opens so many groups with tickets of its own, inside which a script's first command is stopped.
-fn full_book_is_too_deep(rt: &impl Abort, book: &mut Book, more: u8) -> Result<(), Fail> {
+fn full_book_is_too_deep(rt: &impl Abort, book: &mut Book, more: u8)
+    ensures groups { SameGroups book.old book.new }
+{
     if more == 0 {
         ends(rt, book, b"O", ENOUGH, End::Stopped(8, 1, 0, 0, 0), b"");
-        return Ok(());
+        return;
     }
-    let ticket = opened(book)?;
-    let inside = full_book_is_too_deep(rt, book, more - 1);
-    assert_eq!(rt; ended(book.keep(ticket)), 0);
-    inside
+    let Ok(ticket) = book.open() else {
+        panic!(rt; "no group was opened");
+    };
+    full_book_is_too_deep(rt, book, more - 1);
+    book.keep(ticket).unwrap();
 }
 
 #[test]
-fn ninth_opening_is_too_deep_at_once(rt: HostRuntime) -> Result<(), Fail> {
+fn ninth_opening_is_too_deep_at_once(rt: HostRuntime) {
     let mut memory = trail::<1>();
     let mut book = Book::new(JOBS, 7, &mut memory);
-    full_book_is_too_deep(&rt, &mut book, DEPTH_MAX as u8)
+    full_book_is_too_deep(&rt, &mut book, DEPTH_MAX as u8);
 }
 
 // A trail of one record: outside of groups no edit takes it; a kept group hands it on, and a cancelled one frees it.
@@ -154,22 +160,21 @@ fn groups_left_open_are_cancelled(rt: HostRuntime) {
 
 // Neither K nor C ends it: it can still be cancelled, and with it what the script did.
 #[test]
-fn group_of_the_book_stays_open(rt: HostRuntime) -> Result<(), Fail> {
+fn group_of_the_book_stays_open(rt: HostRuntime) {
     let scripts: [&[u8]; 2] = [b"OR\x02\x01\x01\x03KK", b"OR\x02\x01\x01\x03KC"];
     for script in scripts {
         let mut memory = trail::<4>();
         let mut book = Book::new(JOBS, 7, &mut memory);
-        let ticket = opened(&mut book)?;
+        let ticket = book.open().unwrap();
         let asked = book.request(0, 1, &[1]).is_ok();
         let end = End::Stopped(16, 0, 7, 3, 0);
         ends(&rt, &mut book, script, ENOUGH, end, b"");
         let inside = is_row(&book, 0, 1, &[1]) && is_row(&book, 2, 1, &[3]);
-        assert_eq!(rt; ended(book.cancel(ticket)), 0);
+        book.cancel(ticket).unwrap();
         assert!(rt; asked && inside, "at {script:?}");
         assert!(rt;
             is_row(&book, 0, 0, &[]) && is_row(&book, 2, 0, &[]),
             "at {script:?}"
         );
     }
-    Ok(())
 }

@@ -1,9 +1,12 @@
 -- The small books, and the table of what is to come of them.
 use Rattle.std.specs.Prelude.{ℕ, Bool, true, false, List, [], ◌∷◌, None}
 use Rattle.rows.specs.Waiting.{Waiting, idle}
-use Rattle.groups.specs.State.{State}
-use Rattle.book.specs.Answers.{Answer, done, ticket, stopped, after}
-use Rattle.book.specs.Calls.{Call, edits, requests, grants, opens, cancels}
+use Rattle.histories.specs.Answers.{Answer, done, ticket, stopped}
+use Rattle.histories.specs.Rules.{after}
+use Rattle.histories.specs.Calls.{Call, edits, opens, cancels}
+use Rattle.store.specs.Calls.{Edit, requests, grants}
+use Rattle.store.specs.Plain.{plain}
+use Rattle.store.specs.Books.{PlainBook, book_of}
 
 -- The row of a job that needs so many of some targets.
 abbrev pub needs : (need : ℕ) (targets : List ℕ) → Waiting
@@ -46,8 +49,8 @@ pub record RunLine : Type 0 where
 
 -- A call on a book: its answer, and the rows after it.
 pub record CallLine : Type 0 where
-  pub before : State Waiting
-  pub call : Call
+  pub before : PlainBook
+  pub call : Call Edit
   pub answer : Answer
   pub rows : List Waiting
 
@@ -61,15 +64,15 @@ abbrev pub asked : List Waiting → (initiator : ℕ) → (free : Bool) → (del
 asked rows initiator free deliveries = of_run (record { rows = rows; initiator = initiator; free = free; deliveries = deliveries })
 
 -- A line that is a call.
-abbrev pub called : State Waiting → Call → Answer → List Waiting → Line
+abbrev pub called : PlainBook → Call Edit → Answer → List Waiting → Line
 called before call answer rows = of_call (record { before = before; call = call; answer = answer; rows = rows })
 
 -- B2 as a book with mark 7, a trail of one record and no open group.
-abbrev pub b2_book : State Waiting
-b2_book = record { rows = b2; groups = []; mark = 7; room = 1 }
+abbrev pub b2_book : PlainBook
+b2_book = book_of (record { rows = b2; groups = []; mark = 7; room = 1 })
 
 -- In the group, 1 comes to wait for 0.
-abbrev pub b2_request : Call
+abbrev pub b2_request : Call Edit
 b2_request = edits (requests 1 1 (0 ∷ []))
 
 -- What is to come of them. That 16 targets are taken and 17 are not, and that a ninth group is not opened, holds of any book.
@@ -85,8 +88,8 @@ table =
     ∷ asked b6 2 true 6
     ∷ asked b7 0 false 16
     ∷ called b2_book opens (ticket 7 1) b2
-    ∷ called (after b2_book opens) b2_request done b3
-    ∷ called (after (after b2_book opens) b2_request) (cancels 7 1) done b2
+    ∷ called (after plain b2_book opens) b2_request done b3
+    ∷ called (after plain (after plain b2_book opens) b2_request) (cancels 7 1) done b2
     ∷ called b2_book (edits (grants 1 0)) done (idle ∷ idle ∷ [])
     ∷ called b2_book (edits (grants 0 1)) (stopped 6 None) b2
     ∷ called b2_book (edits (grants 1 1)) (stopped 7 None) b2

@@ -4,8 +4,9 @@ use Rattle.std.specs.List.{AllByRecursion}
 use Rattle.carriers.specs.declared.message.Message.{Message}
 use Rattle.exchange.specs.Records.{blank}
 use Rattle.exchange.specs.Runs.{RunState, Exchange}
-use Rattle.book.specs.Answers.{says, after}
+use Rattle.histories.specs.Rules.{says, after}
 use Rattle.small_books.specs.Books.{RunLine, CallLine, Line, of_run, of_call, table}
+use Rattle.store.specs.Plain.{plain}
 
 -- Every run that is over has had so many deliveries, in whatever order they came, and leaves the initiator free or not, as told;
 -- and there is such a run.
@@ -16,8 +17,8 @@ pub record Tells (a : RunLine) : Type 0 where
 
 -- The book answers the call, and has these rows after it.
 pub record Answers (c : CallLine) : Type 0 where
-  pub answer : says c.before c.call ≡ c.answer
-  pub rows : (after c.before c.call).rows ≡ c.rows
+  pub answer : says plain c.before c.call ≡ c.answer
+  pub rows : (after plain c.before c.call).state.rows ≡ c.rows
 
 -- A line of the table holds.
 abbrev pub Holds : Line → Type 0

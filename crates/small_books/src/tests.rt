@@ -1,9 +1,11 @@
 // The table of small books, run as books over all three carriers.
+ghost use Rattle.std.specs.Prelude.{◌≡◌, length};
+ghost use Rattle.histories.specs.Rules.{SameGroups};
+
 use book::{Book, Old, PlainRow};
 use carriers::{Carrier, Kind, Message, Picker, QueueCarrier, StackCarrier, Wait};
 use detection::{Detection, RunRecord, Verdict, detect};
 use std::process::Abort;
-use std::test::Fail;
 
 // Room for two messages on each wait of the largest of these books.
 const CELLS: usize = 10;
@@ -83,7 +85,9 @@ fn trail() -> [Old<PlainRow>; 1] {
 }
 
 // Active jobs come to have these rows.
-fn request_each(rt: &impl Abort, book: &mut Book, rows: &[Row]) {
+fn request_each(rt: &impl Abort, book: &mut Book, rows: &[Row])
+    ensures groups { SameGroups book.old book.new }
+{
     for row in rows {
         assert!(rt; book.request(row.job, row.need, row.targets).is_ok());
     }
@@ -158,20 +162,18 @@ fn three_and_four_jobs(rt: HostRuntime) {
 
 // In B2, job 1 comes to wait for job 0 in a group that is then cancelled: inside it is B3, and after it B2 again.
 #[test]
-fn a_cancelled_request(rt: HostRuntime) -> Result<(), Fail> {
+fn a_cancelled_request(rt: HostRuntime) {
     let mut memory = trail();
     let mut book = Book::new(2, 7, &mut memory);
     request_each(&rt, &mut book, &[needs(0, 1, &[1])]);
-    let ticket = book.open().map_err(|_| Fail::new("no group was opened"))?;
+    let Ok(ticket) = book.open() else {
+        panic!(rt; "no group was opened");
+    };
     request_each(&rt, &mut book, &[needs(1, 1, &[0])]);
     answers_over_each(&rt, &book, stuck(0, 4));
-    let cancelled = book
-        .cancel(ticket)
-        .map_or_else(|refused| refused.give_up().number(), |()| 0);
-    assert_eq!(rt; cancelled, 0);
+    book.cancel(ticket).unwrap();
     answers_over_each(&rt, &book, free(0, 4));
     answers_over_each(&rt, &book, free(1, 2));
-    Ok(())
 }
 
 // A grant in B2: one makes job 0 active, and two are refused and leave B2.

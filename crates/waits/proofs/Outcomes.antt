@@ -1,23 +1,24 @@
 -- What comes of a script on a new book.
 use Rattle.std.proofs.Common.{◌≡◌, true, List, ℕ, replicate, Result, Ok, Err, is_ok, OnOk, subst}
-use Rattle.rows.specs.Waiting.{Waiting, idle}
 use Rattle.groups.specs.History.{begun}
-use Rattle.groups.specs.State.{State, fresh}
 use Rattle.carriers.specs.Parts.{new_carrier}
 use Rattle.carriers.specs.Meaning.{Carried}
 use Rattle.exchange.specs.Records.{blank}
 use Rattle.exchange.specs.declared.record.RunRecord.{RunRecord}
-use Rattle.book.specs.History.{terms, Shows}
-use Rattle.book.specs.ScriptRuns.{RanScript}
-use Rattle.book.specs.Lent.{lent}
-use Rattle.book.specs.Scripts.{Scripted}
-use Rattle.book.specs.Subjects.{of_history}
-use Rattle.book.specs.declared.script.fault.StoppedScript.{StoppedScript}
-use Rattle.book.specs.declared.script.fault.FinishedScript.{FinishedScript}
+use Rattle.histories.specs.Histories.{terms, Shows}
+use Rattle.scripts.specs.ScriptRuns.{RanScript}
+use Rattle.scripts.specs.Lent.{lent}
+use Rattle.scripts.specs.Scripts.{Scripted}
+use Rattle.histories.specs.Subjects.{of_history}
+use Rattle.scripts.specs.declared.fault.StoppedScript.{StoppedScript}
+use Rattle.scripts.specs.declared.fault.FinishedScript.{FinishedScript}
 use Rattle.waits.specs.Outcome.{ComesOut}
+use Rattle.store.specs.Plain.{plain}
+use Rattle.store.specs.Books.{PlainBook}
+use Rattle.store.specs.Creation.{new_book}
 
-pub comes_out : {s s' : State Waiting} {was records : List RunRecord} {before carrier : Carried} {script bytes bytes' : List ℕ} {a : Result FinishedScript StoppedScript}
-    → s ≡ fresh 256 idle 7 1024 → Shows s begun → was ≡ replicate 256 blank → before ≡ new_carrier 8192 → RanScript s (lent was before bytes) script a s' (lent records carrier bytes')
+pub comes_out : {s s' : PlainBook} {was records : List RunRecord} {before carrier : Carried} {script bytes bytes' : List ℕ} {a : Result FinishedScript StoppedScript}
+    → s ≡ new_book 256 7 1024 → Shows plain s begun → was ≡ replicate 256 blank → before ≡ new_carrier 8192 → RanScript s (lent was before bytes) script a s' (lent records carrier bytes')
     → ComesOut script bytes a bytes'
 comes_out {s} {s'} {was} {records} {before} {carrier} {script} {bytes} {bytes'} {a} new shows blanks empty k =
     let r = k.shows begun shows in
@@ -25,7 +26,7 @@ comes_out {s} {s'} {was} {records} {before} {carrier} {script} {bytes} {bytes'} 
       history = r.0;
       records = records;
       carrier = carrier;
-      scripted = rw (← blanks, ← empty) (subst (λ t. Scripted (of_history (terms t)) begun (lent was before bytes) script a r.0 (lent records carrier bytes')) new r.1);
+      scripted = rw (← blanks, ← empty) (subst (λ t. Scripted (of_history plain (terms t)) begun (lent was before bytes) script a r.0 (lent records carrier bytes')) new r.1);
     }
 
 -- what holds of a success

@@ -5,17 +5,19 @@ use Rattle.exchange.specs.Records.{blank}
 use Rattle.exchange.specs.declared.record.RunRecord.{RunRecord}
 use Rattle.carriers.specs.Meaning.{Carried}
 use Rattle.groups.specs.History.{History, begun}
-use Rattle.book.specs.Calls.{Edit}
-use Rattle.book.specs.History.{Terms}
-use Rattle.book.specs.Scripts.{Scripted}
-use Rattle.book.specs.Lent.{lent}
-use Rattle.book.specs.Subjects.{of_history}
-use Rattle.book.specs.declared.script.fault.StoppedScript.{StoppedScript}
-use Rattle.book.specs.declared.script.fault.FinishedScript.{FinishedScript}
+use Rattle.store.specs.Calls.{Edit}
+use Rattle.histories.specs.Histories.{Terms}
+use Rattle.scripts.specs.Scripts.{Scripted}
+use Rattle.scripts.specs.Lent.{lent}
+use Rattle.histories.specs.Subjects.{of_history}
+use Rattle.scripts.specs.declared.fault.StoppedScript.{StoppedScript}
+use Rattle.scripts.specs.declared.fault.FinishedScript.{FinishedScript}
 use Rattle.tables.specs.Tables.{jobs_max, waits_max}
 use Rattle.groups.specs.Limits.{trail_max}
 use Rattle.exchange.specs.Bounds.{capacity_per_wait}
-use Rattle.book.specs.Creation.{new_terms}
+use Rattle.store.specs.Creation.{new_terms}
+use Rattle.store.specs.Plain.{plain}
+use Rattle.store.specs.Books.{Fixed}
 
 -- How many jobs the program's book has.
 abbrev pub program_jobs : ℕ
@@ -30,7 +32,7 @@ abbrev pub program_queue : ℕ
 program_queue = capacity_per_wait * waits_max
 
 -- A new book. Any mark would do, since a script hands out no ticket.
-abbrev pub program_terms : Terms
+abbrev pub program_terms : Terms Fixed
 program_terms = new_terms program_jobs 7 program_trail
 
 -- The answer, and the answer bytes, are those that the rules give a script on the history of a new book, with a blank record for each
@@ -39,4 +41,4 @@ pub record ComesOut (script bytes : List ℕ) (answer : Result FinishedScript St
   pub history : History Edit
   pub records : List RunRecord
   pub carrier : Carried
-  pub scripted : Scripted (of_history program_terms) begun (lent (replicate program_jobs blank) (new_carrier program_queue) bytes) script answer history (lent records carrier bytes')
+  pub scripted : Scripted (of_history plain program_terms) begun (lent (replicate program_jobs blank) (new_carrier program_queue) bytes) script answer history (lent records carrier bytes')

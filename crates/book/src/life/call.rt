@@ -1,10 +1,9 @@
 // The calls of a life, and what they answer.
 
-use crate::calls::Edit;
-use crate::fault::{BookFault, RefusedStub};
-use crate::script::{FinishedScript, StoppedScript};
 use detection::{Detection, DetectionFault};
 use groups::{Ending, Stub};
+use scripts::{FinishedScript, StoppedScript};
+use store::{BookFault, Edit, RefusedStub};
 
 // A call. An ending is made with a ticket that tells what the stub tells, whether or not an opening has given such a ticket.
 #[derive(Clone, Copy, Debug)]

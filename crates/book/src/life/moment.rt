@@ -4,7 +4,7 @@ ghost use Rattle.book.specs.declared.life.call.Answer.TheVariants.{Edited};
 ghost use Rattle.book.specs.Moments.{answer_at, seen_at, written_by};
 
 use crate::life::call::Answer;
-use crate::snapshot::Snapshot;
+use store::Snapshot;
 
 // What a call answered, and what was seen of the book after it.
 #[derive(Clone, Copy, Debug)]

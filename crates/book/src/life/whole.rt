@@ -1,18 +1,23 @@
 // Living a whole life.
 ghost use Rattle.std.specs.Prelude.{◌≡◌, ◌≤◌, length, take, drop, is_err, nat_lt, IfOk, IfErr};
-ghost use Rattle.book.specs.Law.{LawOfLives, GrantsAreAllowed};
+ghost use Rattle.book.specs.Law.{LawOfPlainBooks, GrantsAreAllowed};
 ghost use Rattle.book.specs.Moments.{Lived, written_by};
 ghost use Rattle.book.specs.Performing.{Performed};
-ghost use Rattle.book.specs.Lent.{lent};
+ghost use Rattle.scripts.specs.Lent.{lent};
+ghost use Rattle.histories.specs.Calls.{edits, opens, ends};
+ghost use Rattle.histories.specs.Histories.{Called};
+ghost use Rattle.store.specs.Plain.{plain};
+ghost use Rattle.store.specs.Views.{told, told_stub, told_ending_by, edit_of};
 
+use crate::client::Book;
 use crate::life::call::{Answer, Call};
 use crate::life::moment::Moment;
-use crate::snapshot::Snapshot;
-use crate::store::Book;
+use crate::ticket::{RefusedEnding, Ticket};
 use carriers::Carrier;
 use detection::{RunRecord, detect};
-use groups::Old;
+use groups::{Ending, Old, Stub};
 use rows::PlainRow;
+use store::{BookFault, Edit, RefusedStub, Snapshot};
 
 // What creation takes.
 #[derive(Drop)]
@@ -27,6 +32,44 @@ pub struct Creation<'t> {
 pub struct TooFewMoments;
 
 impl<'a> Book<'a> {
+    // Opens a group, and takes its ticket apart.
+    fn open_apart(&mut self) -> Result<Stub, BookFault>
+        ensures { Called plain self.old opens (told_stub result) self.new }
+    {
+        match self.open() {
+            Ok(ticket) => Ok(ticket.spent()),
+            Err(fault) => Err(fault),
+        }
+    }
+
+    // Ends the innermost group with a ticket that tells what the stub tells; where it is refused it is taken apart.
+    fn end_by(&mut self, ending: Ending, stub: Stub) -> Result<(), RefusedStub>
+        ensures { Called plain self.old (ends ending stub.mark stub.depth) (told_ending_by result) self.new }
+    {
+        let ticket = Ticket::of(stub);
+        let ended = match ending {
+            Ending::Keep => self.keep(ticket),
+            Ending::Cancel => self.cancel(ticket),
+        };
+        match ended {
+            Ok(()) => Ok(()),
+            Err(RefusedEnding { fault, ticket }) => Err(RefusedStub {
+                fault,
+                stub: ticket.spent(),
+            }),
+        }
+    }
+
+    // Makes an edit.
+    fn edit(&mut self, edit: Edit<'_>) -> Result<(), BookFault>
+        ensures { Called plain self.old (edits (edit_of edit.entry)) (told result) self.new }
+    {
+        match edit {
+            Edit::Grant { granter, waiter } => self.grant(granter, waiter),
+            Edit::Request { job, need, targets } => self.request(job, need, targets),
+        }
+    }
+
     // Makes a call.
     fn perform<C: Carrier>(
         &mut self,
@@ -39,8 +82,8 @@ impl<'a> Book<'a> {
         ensures written { written_by result ≤ length answers.new }
     {
         match call {
-            Call::Open => Answer::Opened(self.open_by_owner()),
-            Call::End { ending, stub } => Answer::Ended(self.end_by_owner(ending, stub)),
+            Call::Open => Answer::Opened(self.open_apart()),
+            Call::End { ending, stub } => Answer::Ended(self.end_by(ending, stub)),
             Call::Detect { job } => Answer::Detected(detect(self, job, records, carrier)),
             Call::Edit(edit) => Answer::Edited(self.edit(edit)),
             Call::Run { script } => {
@@ -62,7 +105,7 @@ pub fn live<C: Carrier>(
     answers: &mut [u8],
     moments: &mut [Moment],
 ) -> Result<Snapshot, TooFewMoments>
-    ensures law { LawOfLives }
+    ensures law { LawOfPlainBooks }
     ensures grants { GrantsAreAllowed }
     ensures refused { is_err result ≡ nat_lt (length moments.old) (length calls.now) }
     ensures lived { IfOk result (λ first. Lived creation.entry.jobs creation.entry.mark (length creation.entry.trail.now) calls.now first (take (length calls.now) moments.new) (lent records.old (C.Carrier.carried carrier.old) answers.old) (lent records.new (C.Carrier.carried carrier.new) answers.new)) }

@@ -3,9 +3,9 @@ ghost use Rattle.std.specs.Prelude.{◌≡◌, ◌+◌, ◌≤◌, not, length, 
 ghost use Rattle.containers.specs.Held.{holding};
 ghost use Rattle.groups.specs.Limits.{row_count, depth_max};
 ghost use Rattle.groups.specs.State.{face, full, can_open, fresh, written, opened, kept, cancelled, unwound, old_row, noting};
-ghost use Rattle.groups.specs.Tickets.{fits, ended};
+ghost use Rattle.groups.specs.Stubs.{fits, ended_as};
 
-use crate::store::{Groups, Old, ROWS, Returned, TRAIL_MAX, Ticket, TrailFull};
+use crate::store::{Ending, Groups, Old, ROWS, Stub, TRAIL_MAX, TrailFull};
 use arrayvec::ArrayVec;
 use containers::{Container, Stack};
 
@@ -74,8 +74,8 @@ impl<'a, P: Copy> Groups<'a, P> {
         Ok(())
     }
 
-    // Opens a group inside the others; none, and nothing changed, if eight are open.
-    pub fn open(&mut self) -> Option<Ticket>
+    // Opens a group inside the others, and answers its stub; none, and nothing changed, if eight are open.
+    pub fn open(&mut self) -> Option<Stub>
         ensures value { result ≡ (if can_open (face self.old) then Some (record { mark = self.old.mark; depth = (face self.old).depth + 1 }) else None) }
         ensures after { self.new ≡ (if can_open (face self.old) then opened self.old else self.old) }
     {
@@ -83,31 +83,43 @@ impl<'a, P: Copy> Groups<'a, P> {
             return None;
         }
         self.starts.push(self.trail.len());
-        Some(Ticket {
+        let depth = self.depth() as u8;
+        Some(Stub {
             mark: self.mark,
-            depth: self.depth() as u8,
+            depth,
         })
     }
 
-    // Takes the innermost group's ticket; another comes back.
-    fn spend(&self, ticket: Ticket) -> Result<(), Returned>
-        ensures { result ≡ ended self.now ticket }
+    // The stub of the innermost group; where no group is open, it is no group's.
+    pub fn innermost(&self) -> Stub
+        ensures { result ≡ record { mark = self.now.mark; depth = length self.now.groups } }
     {
-        let depth = self.depth();
-        if ticket.mark != self.mark || ticket.depth as usize != depth || depth == 0 {
-            return Err(Returned { ticket });
+        Stub {
+            mark: self.mark,
+            depth: self.depth() as u8,
         }
-        let Ticket { mark: _, depth: _ } = ticket;
-        Ok(())
     }
 
-    // Ends the innermost group, and its writes stay; a ticket that is not that group's comes back, and nothing changes.
-    pub fn keep(&mut self, ticket: Ticket) -> Result<(), Returned>
-        ensures value { result ≡ ended self.old ticket }
-        ensures after { self.new ≡ (if fits self.old ticket then kept self.old else self.old) }
+    // The stub is the innermost group's.
+    fn fits(&self, stub: Stub) -> bool
+        ensures { result ≡ fits self.now stub }
     {
-        self.spend(ticket)?;
-        self.keep_innermost();
+        let depth = self.depth();
+        stub.mark == self.mark && stub.depth as usize == depth && depth > 0
+    }
+
+    // Ends the innermost group: its writes stay, or are undone. A stub that is not that group's comes back, and nothing changes.
+    pub fn end(&mut self, ending: Ending, stub: Stub) -> Result<(), Stub>
+        ensures value { result ≡ (if fits self.old stub then Ok tt else Err stub) }
+        ensures after { self.new ≡ (if fits self.old stub then ended_as ending self.old else self.old) }
+    {
+        if !self.fits(stub) {
+            return Err(stub);
+        }
+        match ending {
+            Ending::Keep => self.keep_innermost(),
+            Ending::Cancel => self.cancel_innermost(),
+        }
         Ok(())
     }
 
@@ -119,16 +131,6 @@ impl<'a, P: Copy> Groups<'a, P> {
         if self.starts.is_empty() {
             self.trail.clear();
         }
-    }
-
-    // Ends the innermost group, and its writes are undone; a ticket that is not that group's comes back, and nothing changes.
-    pub fn cancel(&mut self, ticket: Ticket) -> Result<(), Returned>
-        ensures value { result ≡ ended self.old ticket }
-        ensures after { self.new ≡ (if fits self.old ticket then cancelled self.old else self.old) }
-    {
-        self.spend(ticket)?;
-        self.cancel_innermost();
-        Ok(())
     }
 
     // Puts back what the innermost group has written over.
@@ -153,38 +155,5 @@ fn unwind<P: Copy>(rows: &mut [P; ROWS], trail: &mut Stack<'_, Old<P>>, start: u
         // A record that holds an array is taken into a lent place, as the rules want.
         let _ = trail.take(&mut old);
         rows[old.job as usize] = old.row;
-    }
-}
-
-impl Ticket {
-    // The mark of the groups that gave the ticket.
-    pub fn mark(&self) -> u16
-        ensures { result ≡ self.now.mark }
-    {
-        self.mark
-    }
-
-    // How many groups were open when it was given, its own among them.
-    pub fn depth(&self) -> u8
-        ensures { result ≡ self.now.depth }
-    {
-        self.depth
-    }
-}
-
-impl Returned {
-    // The ticket that was refused.
-    pub fn ticket(self) -> Ticket
-        ensures { result ≡ self.ticket }
-    {
-        let Returned { ticket } = self;
-        ticket
-    }
-
-    // Gives up a ticket that no ending wants.
-    pub fn give_up(self) {
-        let Returned {
-            ticket: Ticket { mark: _, depth: _ },
-        } = self;
     }
 }

@@ -1,14 +1,15 @@
 use Rattle.std.proofs.Common.{◌≡◌, ◌<◌, length, refl, ◌∙◌, ap, arith}
 use Rattle.std.proofs.lemmas.List.{take_more, take_more_set, take_all, take_rest, length-set, drop-set-lt}
 use Rattle.book.specs.declared.life.call.Call.TheVariants.{Open}
-use Rattle.book.specs.Subjects.{of_book, view_of}
+use Rattle.histories.specs.Subjects.{of_book, view_of}
 use Rattle.book.proofs.Alive.{alive_first, alive_next, alive_lived, behind_all}
 use Rattle.book.proofs.Granting.{grants_are_allowed}
-use Rattle.book.proofs.Lives.{law_of_lives}
+use Rattle.book.proofs.Lives.{law_of_plain_books}
 use Rattle.book.proofs.life.whole.live.Goals as goal
+use Rattle.store.specs.Plain.{plain}
 
 pub returns-then-moments-calls-clause-law : goal.returns-then-moments-calls-clause-law
-returns-then-moments-calls-clause-law g c = law_of_lives
+returns-then-moments-calls-clause-law g c = law_of_plain_books
 
 pub loop-place-init : goal.loop-place-init
 loop-place-init g c = (alive_first _ _ _ _ _ _ _ c.new-book.ensures.value, omega (arith, c.if-moments-calls.false), refl)
@@ -27,7 +28,7 @@ loop-place-preserved g c =
     )
 
 pub returns-clause-law : goal.returns-clause-law
-returns-clause-law g c = law_of_lives
+returns-clause-law g c = law_of_plain_books
 
 pub returns-then-moments-calls-clause-grants : goal.returns-then-moments-calls-clause-grants
 returns-then-moments-calls-clause-grants g c = grants_are_allowed
@@ -38,4 +39,4 @@ returns-clause-grants g c = grants_are_allowed
 pub returns-clause-lived : goal.returns-clause-lived
 returns-clause-lived g c =
     let end : c.loop-place.place ≡ length c.args.calls.now = omega (arith, c.loop-place-test.false, c.loop-place.auto.place-end) in
-    rw (← end) (alive_lived _ _ _ _ c.snapshot-first.result (c.snapshot-first.ensures ∙ ap (view_of of_book) c.new-book.ensures.value) (rw (take_all c.loop-place.place c.args.calls.now (omega (arith, end))) at c.loop-place.invariant.0))
+    rw (← end) (alive_lived _ _ _ _ c.snapshot-first.result (c.snapshot-first.ensures ∙ ap (view_of (of_book plain)) c.new-book.ensures.value) (rw (take_all c.loop-place.place c.args.calls.now (omega (arith, end))) at c.loop-place.invariant.0))

@@ -1,5 +1,5 @@
 use Rattle.std.proofs.Common.{◌≡◌, ◌≤◌, length, take, drop}
-use Rattle.book.specs.Lent.{lent}
+use Rattle.scripts.specs.Lent.{lent}
 use Rattle.book.proofs.Alive.{Alive}
 use Rattle.book.proofs.life.whole.live.Given as goal
 

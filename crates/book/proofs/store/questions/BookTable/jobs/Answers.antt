@@ -1,5 +1,0 @@
-use Rattle.book.proofs.Seen.{lawful_seen}
-use Rattle.book.proofs.store.questions.BookTable.jobs.Goals as goal
-
-pub returns-clause-lawful : goal.returns-clause-lawful
-returns-clause-lawful c = rw (← c.self.view_is) (lawful_seen c.self.inside.jobs c.self.inside.groups c.self.invariant)

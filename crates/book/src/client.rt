@@ -1,0 +1,168 @@
+// The book: a store that nobody else has, and whose groups are ended by tickets alone.
+ghost use Rattle.std.specs.Prelude.{◌≡◌, ◌<◌, ◌≤◌, ◌+◌, length, IfOk, IsOk};
+ghost use Rattle.store.specs.Calls.{requests, grants};
+ghost use Rattle.store.specs.Creation.{new_book};
+ghost use Rattle.store.specs.Plain.{plain};
+ghost use Rattle.store.specs.Views.{told};
+ghost use Rattle.book.specs.Tickets.{told_opening, told_ending};
+ghost use Rattle.groups.specs.History.{begun};
+ghost use Rattle.groups.specs.Limits.{depth_max};
+ghost use Rattle.histories.specs.Calls.{edits, opens, keeps, cancels, ends};
+ghost use Rattle.histories.specs.Histories.{Called, Shows};
+ghost use Rattle.histories.specs.Subjects.{of_book, view_of};
+ghost use Rattle.store.specs.Snapshots.{snapshot_view};
+ghost use Rattle.scripts.specs.Lent.{lent};
+ghost use Rattle.scripts.specs.ScriptRuns.{RanScript, script_written};
+ghost use Rattle.histories.specs.Rules.{SameGroups};
+
+use crate::ticket::{RefusedEnding, Ticket};
+use carriers::Carrier;
+use detection::RunRecord;
+use groups::{Ending, Old};
+use rows::PlainRow;
+use scripts::{FinishedScript, StoppedScript, run_script};
+use std::marker::Model;
+use store::{BookFault, RefusedStub, Snapshot, Store};
+use tables::{Table, TwoWayTable};
+
+// A book, whose store is nobody else's.
+#[derive(Drop)]
+pub struct Book<'a> {
+    store: Store<'a>,
+}
+
+impl<'a> Model for Book<'a> {
+    ghost use Rattle.store.specs.Books.{PlainBook};
+
+    ghost Value = { PlainBook };
+
+    ghost view = { λ b. b.store };
+}
+
+impl<'a> Book<'a> {
+    // A book in which every job is active. Its tickets will carry the mark, and what its groups would undo lies in the
+    // lent memory. Where more than 256 jobs are asked for, it has none.
+    pub fn new(jobs: usize, mark: u16, memory: &'a mut [Old<PlainRow>]) -> Book<'a>
+        ensures value { result ≡ new_book jobs mark (length memory.old) }
+        ensures shows { Shows plain result begun }
+    {
+        Book {
+            store: Store::new(jobs, mark, memory),
+        }
+    }
+
+    // A request: an active job waits for `need` of the targets, which are listed by rising number.
+    pub fn request(&mut self, job: usize, need: u8, targets: &[u8]) -> Result<(), BookFault>
+        ensures { Called plain self.old (edits (requests job need targets.now)) (told result) self.new }
+    {
+        self.store.request(job, need, targets)
+    }
+
+    // A grant: the waiter no longer waits for the granter, which is active, and needs one less; when it needs none, its
+    // other waits go too.
+    pub fn grant(&mut self, granter: usize, waiter: usize) -> Result<(), BookFault>
+        ensures { Called plain self.old (edits (grants granter waiter)) (told result) self.new }
+    {
+        self.store.grant(granter, waiter)
+    }
+
+    // Opens a group inside the others. Its ticket must be handed back, by keeping the group or by cancelling it.
+    pub fn open(&mut self) -> Result<Ticket, BookFault>
+        ensures called { Called plain self.old opens (told_opening result) self.new }
+        ensures given { length self.old.state.groups < depth_max → IsOk result }
+        ensures ticket { IfOk result (λ t. (t.mark ≡ self.old.state.mark) × (t.depth ≡ length self.old.state.groups + 1)) }
+    {
+        match self.store.open() {
+            Ok(stub) => Ok(Ticket::of(stub)),
+            Err(fault) => Err(fault),
+        }
+    }
+
+    // Ends the innermost group, and its edits stay, undone only if the group around it is cancelled. A ticket that is
+    // not the innermost group's comes back.
+    pub fn keep(&mut self, ticket: Ticket) -> Result<(), RefusedEnding>
+        ensures called { Called plain self.old (keeps ticket.mark ticket.depth) (told_ending result) self.new }
+        ensures taken { ticket.mark ≡ self.old.state.mark → ticket.depth ≡ length self.old.state.groups → 0 < ticket.depth → IsOk result }
+    {
+        self.end(Ending::Keep, ticket)
+    }
+
+    // Ends the innermost group, and every row is as it was when the group was opened. A ticket that is not the innermost
+    // group's comes back.
+    pub fn cancel(&mut self, ticket: Ticket) -> Result<(), RefusedEnding>
+        ensures called { Called plain self.old (cancels ticket.mark ticket.depth) (told_ending result) self.new }
+        ensures taken { ticket.mark ≡ self.old.state.mark → ticket.depth ≡ length self.old.state.groups → 0 < ticket.depth → IsOk result }
+    {
+        self.end(Ending::Cancel, ticket)
+    }
+
+    // Ends the innermost group; a ticket that is not that group's comes back.
+    fn end(&mut self, ending: Ending, ticket: Ticket) -> Result<(), RefusedEnding>
+        ensures { Called plain self.old (ends ending ticket.mark ticket.depth) (told_ending result) self.new }
+    {
+        match self.store.end(ending, ticket.spent()) {
+            Ok(()) => Ok(()),
+            Err(RefusedStub { fault, stub }) => Err(RefusedEnding {
+                fault,
+                ticket: Ticket::of(stub),
+            }),
+        }
+    }
+
+    // What is seen of the book.
+    pub fn snapshot(&self) -> Snapshot
+        ensures { snapshot_view result ≡ view_of (of_book plain) self.now }
+    {
+        self.store.snapshot()
+    }
+
+    // How many groups are open.
+    pub fn depth(&self) -> usize
+        ensures value { result ≡ length self.now.state.groups }
+        ensures bound { result ≤ depth_max }
+    {
+        self.store.depth()
+    }
+
+    // Runs a script. Detections use the records and the carrier, and write their answers to the bytes, one behind the other. At the
+    // end, and after a fault, the groups that the script has left open are cancelled.
+    pub fn run_script<C: Carrier>(
+        &mut self,
+        script: &[u8],
+        records: &mut [RunRecord],
+        carrier: &mut C,
+        answers: &mut [u8],
+    ) -> Result<FinishedScript, StoppedScript>
+        ensures ran { RanScript self.old (lent records.old (C.Carrier.carried carrier.old) answers.old) script.now result self.new (lent records.new (C.Carrier.carried carrier.new) answers.new) }
+        ensures written { script_written result ≤ length answers.new }
+        ensures groups { SameGroups self.old self.new }
+    {
+        run_script(&mut self.store, script, records, carrier, answers)
+    }
+}
+
+impl<'a> Table for Book<'a> {
+    ghost rows = { λ b. b.state.rows };
+
+    fn jobs(&self) -> usize {
+        self.store.jobs()
+    }
+
+    fn need(&self, job: usize) -> u8 {
+        self.store.need(job)
+    }
+
+    fn target_count(&self, job: usize) -> usize {
+        self.store.target_count(job)
+    }
+
+    fn target(&self, job: usize, place: usize) -> Option<u8> {
+        self.store.target(job, place)
+    }
+
+    fn waits_for(&self, waiter: usize, job: usize) -> bool {
+        self.store.waits_for(waiter, job)
+    }
+}
+
+impl<'a> TwoWayTable for Book<'a> {}

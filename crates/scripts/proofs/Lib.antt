@@ -1,0 +1,3 @@
+pub mod Working
+pub mod Reading
+pub mod Simulated

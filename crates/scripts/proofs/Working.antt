@@ -1,0 +1,43 @@
+-- The arms of a script's command.
+use Rattle.std.proofs.Common.{◌≡◌, ℕ, ◌+◌, ◌-◌, cond, List, drop, drop-drop, IsErrAnd, Result, Ok, Err, sym, ap, ◌∙◌, arith}
+use Rattle.carriers.specs.Meaning.{Carried}
+use Rattle.exchange.specs.declared.record.RunRecord.{RunRecord}
+use Rattle.store.specs.declared.fault.BookFault.{BookFault}
+use Rattle.scripts.specs.declared.fault.ScriptFault.{ScriptFault}
+use Rattle.scripts.specs.declared.tally.Tally.{Tally}
+use Rattle.histories.specs.Answers.{done, accepted}
+use Rattle.store.specs.Answers.{refusal}
+use Rattle.histories.specs.Rules.{says, after, changed}
+use Rattle.store.specs.Calls.{Edit}
+use Rattle.histories.specs.Calls.{Call, edits}
+use Rattle.histories.specs.Histories.{Called}
+use Rattle.scripts.specs.Commands.{Command, makes}
+use Rattle.scripts.specs.Scripts.{Progress, CarriesOut, Stops, edited}
+use Rattle.histories.specs.Subjects.{of_book}
+use Rattle.scripts.specs.Working.{far, CarriedOut}
+use Rattle.store.specs.Plain.{plain}
+use Rattle.store.specs.Books.{PlainBook}
+
+-- a refused call leaves the book as it was
+pub refused_leaves : (s s' : PlainBook) (c : Call Edit) (fault : BookFault) → refusal fault ≡ says plain s c → s' ≡ after plain s c → s' ≡ s
+refused_leaves s s' c fault e f = f ∙ ap (λ a. cond (accepted a) (changed plain s c) s) (sym e)
+
+-- a fault that comes out of a call stops the command
+pub fault_stops : (c : Command) (p q : Progress PlainBook) (r : Result (Unit {0}) ScriptFault) (fault : ScriptFault)
+    → IsErrAnd r (λ y. y ≡ fault) → Stops (of_book plain) p c fault → q ≡ p → CarriedOut c p q r
+fault_stops c p q (Ok u) fault h stops same = absurd h
+fault_stops c p q (Err f) fault h stops same = rw h (stops, same)
+
+-- a call of the book that is refused, and one that is not
+module _ (s s' : PlainBook) (records : List RunRecord) (carrier : Carried) (bytes : List ℕ) (t : Tally) where
+  pub refused_far : (c : Call Edit) (fault : BookFault) → Called plain s c (refusal fault) s' → far s' records carrier bytes t ≡ far s records carrier bytes t
+  refused_far c fault k = ap (λ x. far x records carrier bytes t) (refused_leaves s s' c fault k.value k.after)
+
+  pub edit_carried : (e : Edit) → Called plain s (edits e) done s' → CarriesOut (of_book plain) (far s records carrier bytes t) (makes e) (far s' records carrier bytes t)
+  edit_carried e k = rw k.after (edited (sym k.value))
+
+-- what stands behind four bytes that are written
+pub bytes_behind : (w : ℕ) (bytes : List ℕ) → drop (w + 4 - w) (drop w bytes) ≡ drop (w + 4) bytes
+bytes_behind w bytes =
+    let four : w + 4 - w ≡ 4 = omega arith in
+    ap (λ k. drop k (drop w bytes)) four ∙ drop-drop 4 w bytes

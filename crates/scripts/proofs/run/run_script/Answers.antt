@@ -1,0 +1,30 @@
+use Rattle.std.proofs.Common.{refl, Some, None}
+use Rattle.scripts.specs.Working.{far}
+use Rattle.scripts.proofs.Simulated.{worked_ran}
+use Rattle.scripts.proofs.run.run_script.Goals as goal
+
+pub returns-in-Ok-clause-ran : goal.returns-in-Ok-clause-ran
+returns-in-Ok-clause-ran g c =
+    let w = c.work-worked.new in
+    worked_ran c.if-script-gt-SCRIPT_MAX.false (record {
+      fault = None;
+      there = w.position;
+      last = far w.store w.records (g.C.Carrier.carried w.carrier) w.answers w.tally;
+      reads = c.in-Ok.ensures.reads;
+      says = refl;
+      leaves = c.cancel_groups.ensures.value;
+      lends = refl;
+    })
+
+pub returns-in-Err-clause-ran : goal.returns-in-Err-clause-ran
+returns-in-Err-clause-ran g c =
+    let w = c.work-worked.new in
+    worked_ran c.if-script-gt-SCRIPT_MAX.false (record {
+      fault = Some c.in-Err.fault;
+      there = w.position;
+      last = far w.store w.records (g.C.Carrier.carried w.carrier) w.answers w.tally;
+      reads = c.in-Err.ensures.reads;
+      says = refl;
+      leaves = c.cancel_groups.ensures.value;
+      lends = refl;
+    })

@@ -1,0 +1,51 @@
+-- What only a plain book knows of: scripts.
+use Rattle.std.specs.Prelude.{ℕ, List, Result}
+use Rattle.rows.specs.Waiting.{Waiting}
+use Rattle.groups.specs.History.{History}
+use Rattle.histories.specs.Histories.{Terms}
+use Rattle.histories.specs.Subjects.{Subject, View, of_book, of_history}
+use Rattle.lives.specs.Events.{Event, special, Does, Life}
+use Rattle.store.specs.Calls.{Edit}
+use Rattle.scripts.specs.Lent.{Lent}
+use Rattle.store.specs.Plain.{plain}
+use Rattle.scripts.specs.Scripts.{Scripted}
+use Rattle.scripts.specs.declared.fault.StoppedScript.{StoppedScript}
+use Rattle.scripts.specs.declared.fault.FinishedScript.{FinishedScript}
+use Rattle.store.specs.Books.{PlainBook, Fixed}
+
+-- A script and its answer, with what was lent to it, before and after.
+pub record ScriptRun : Type 0 where
+  pub script : List ℕ
+  pub before : Lent
+  pub answer : Result FinishedScript StoppedScript
+  pub after : Lent
+
+-- It happens to a subject by the rules of scripts.
+abbrev pub Runs : {X : Type 0} → Subject Waiting Edit X → X → ScriptRun → X → Type 0
+Runs S x r y = Scripted S x r.before r.script r.answer y r.after
+
+-- To a book, and to a history.
+abbrev pub RunsOnBook : PlainBook → ScriptRun → PlainBook → Type 0
+RunsOnBook = Runs (of_book plain)
+
+abbrev pub RunsOnHistory : Terms Fixed → History Edit → ScriptRun → History Edit → Type 0
+RunsOnHistory t = Runs (of_history plain t)
+
+-- What happens to a plain book.
+abbrev pub BookEvent : Type 0
+BookEvent = Event Edit ScriptRun
+
+-- A script that is run, as an event.
+abbrev pub scripted : List ℕ → (before : Lent) → Result FinishedScript StoppedScript → (after : Lent) → BookEvent
+scripted script before answer after = special (record { script = script; before = before; answer = answer; after = after })
+
+-- An event happens to a plain book.
+abbrev pub DoesOnBook : PlainBook → BookEvent → PlainBook → Type 0
+DoesOnBook = Does plain (of_book plain) RunsOnBook
+
+-- The life of a plain book, and of a history.
+abbrev pub LifeOfBook : (first : PlainBook) → List BookEvent → List (View Waiting) → PlainBook → Type 0
+LifeOfBook = Life plain (of_book plain) RunsOnBook
+
+abbrev pub LifeOfHistory : Terms Fixed → (first : History Edit) → List BookEvent → List (View Waiting) → History Edit → Type 0
+LifeOfHistory t = Life plain (of_history plain t) (RunsOnHistory t)

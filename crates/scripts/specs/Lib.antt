@@ -1,0 +1,9 @@
+pub mod Limits
+pub mod Lent
+pub mod Commands
+pub mod ScriptFaults
+pub mod Scripts
+pub mod Reading
+pub mod Working
+pub mod ScriptRuns
+pub mod Events

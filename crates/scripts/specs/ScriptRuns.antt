@@ -1,0 +1,23 @@
+-- A script that is run on a book.
+use Rattle.std.specs.Prelude.{ℕ, List, Ok, Err, Result}
+use Rattle.groups.specs.History.{History}
+use Rattle.store.specs.Calls.{Edit}
+use Rattle.histories.specs.Histories.{Shows, terms}
+use Rattle.scripts.specs.Lent.{Lent}
+use Rattle.scripts.specs.Scripts.{Scripted}
+use Rattle.histories.specs.Subjects.{of_book, of_history}
+use Rattle.scripts.specs.declared.fault.StoppedScript.{StoppedScript}
+use Rattle.scripts.specs.declared.fault.FinishedScript.{FinishedScript}
+use Rattle.store.specs.Plain.{plain}
+use Rattle.store.specs.Books.{PlainBook}
+
+-- The book does as the rules of scripts say; and whatever history it shows before, that history does the same by the same rules, and is
+-- the one that the book shows after.
+pub record RanScript (s : PlainBook) (l : Lent) (script : List ℕ) (answer : Result FinishedScript StoppedScript) (s' : PlainBook) (l' : Lent) : Type 0 where
+  pub does : Scripted (of_book plain) s l script answer s' l'
+  pub shows : (h : History Edit) → Shows plain s h → (h' : History Edit) × Scripted (of_history plain (terms s)) h l script answer h' l' × Shows plain s' h'
+
+-- How many answer bytes a script has written.
+abbrev pub script_written : Result FinishedScript StoppedScript → ℕ
+script_written (Ok f) = f.written
+script_written (Err s) = s.written

@@ -1,0 +1,137 @@
+-- What a script does: its commands one after the other, to the first fault or to the end; and then its open groups are cancelled.
+use Rattle.std.specs.Prelude.{◌≡◌, ℕ, zero, suc, ◌+◌, ◌-◌, ◌/◌, ◌%◌, ◌<◌, ◌≤◌, List, [], ◌∷◌, ◌++◌, length, take, drop, Some, None, Ok, Err, MatchBool, Option, Result, nat_lt}
+use Rattle.carriers.specs.Meaning.{Carried}
+use Rattle.exchange.specs.declared.record.RunRecord.{RunRecord}
+use Rattle.detection.specs.Detects.{Detects}
+use Rattle.detection.specs.declared.verdict.Detection.{Detection}
+use Rattle.detection.specs.declared.verdict.Verdict.{Verdict}
+use Rattle.detection.specs.declared.verdict.Verdict.TheVariants.{Stuck, Free}
+use Rattle.rows.specs.Waiting.{Waiting}
+use Rattle.groups.specs.declared.store.Ending.{Ending}
+use Rattle.histories.specs.Answers.{done, ticket}
+use Rattle.store.specs.Answers.{refusal}
+use Rattle.store.specs.Calls.{Edit}
+use Rattle.histories.specs.Calls.{Call, edits, opens, cancels, ends}
+use Rattle.scripts.specs.Commands.{Command, makes, opening, ending, detecting, Head, over, unknown, cut, whole, head}
+use Rattle.scripts.specs.Lent.{Lent}
+use Rattle.scripts.specs.Limits.{script_max, detection_bytes}
+use Rattle.histories.specs.Subjects.{Subject}
+use Rattle.scripts.specs.declared.fault.ScriptFault.{ScriptFault}
+use Rattle.scripts.specs.declared.fault.ScriptFault.TheVariants.{TooLong, UnknownLetter, CutOff, NoScriptGroup, NoAnswerSpace, OfBook, OfDetection}
+use Rattle.scripts.specs.declared.fault.StoppedScript.{StoppedScript}
+use Rattle.scripts.specs.declared.fault.FinishedScript.{FinishedScript}
+use Rattle.scripts.specs.declared.tally.Position.{Position}
+
+-- How far a script has come: the subject, what is lent, how many bytes it has written and how many groups it has open.
+pub record Progress (X : Type 0) : Type 0 where
+  pub subject : X
+  pub lent : Lent
+  pub written : ℕ
+  pub groups : ℕ
+
+-- The byte of a verdict.
+abbrev pub verdict_byte : Verdict → ℕ
+verdict_byte Stuck = 1
+verdict_byte Free = 0
+
+-- The four bytes of a detection: the job, 1 if it is stuck and else 0, and the deliveries as 16 bits, the high byte first.
+abbrev pub answer_bytes : (job : ℕ) → Detection → List ℕ
+answer_bytes job d = job ∷ verdict_byte d.verdict ∷ d.deliveries / 256 ∷ d.deliveries % 256 ∷ []
+
+-- They stand behind those already written.
+abbrev pub with_answer : (bytes : List ℕ) (written : ℕ) → List ℕ → List ℕ
+with_answer bytes written answer = take written bytes ++ (answer ++ drop (written + length answer) bytes)
+
+-- Why bytes are no command: the first is no command's letter, or they end inside the command.
+abbrev pub unreadable : Head → Option ScriptFault
+unreadable over = None
+unreadable unknown = Some UnknownLetter
+unreadable cut = Some CutOff
+unreadable (whole c n) = None
+
+module _ {X : Type 0} (S : Subject Waiting Edit X) where
+  -- How far a script is after a call, with so many groups of its own open.
+  abbrev pub after_call : Progress X → Call Edit → (groups : ℕ) → Progress X
+  after_call p c groups = record { subject = S.after p.subject c; lent = p.lent; written = p.written; groups = groups }
+
+  -- The ending of the innermost group, as its ticket would.
+  abbrev pub ends_innermost : X → Ending → Call Edit
+  ends_innermost x e = ends e (S.mark x) (S.depth x)
+
+  -- How far it is after an accepted detection.
+  abbrev pub after_detection : Progress X → (job : ℕ) → Detection → (is : List RunRecord) (after : Carried) → Progress X
+  after_detection p job d is after = record {
+    subject = p.subject;
+    lent = record { records = is; carrier = after; bytes = with_answer p.lent.bytes p.written (answer_bytes job d) };
+    written = p.written + detection_bytes;
+    groups = p.groups;
+  }
+
+  -- A command is carried out.
+  pub data CarriesOut : Progress X → Command → Progress X → Type 0 where
+    edited : {p : Progress X} {e : Edit} → S.says p.subject (edits e) ≡ done → CarriesOut p (makes e) (after_call p (edits e) p.groups)
+    opened : {p : Progress X} {mark depth : ℕ} → S.says p.subject opens ≡ ticket mark depth → CarriesOut p opening (after_call p opens (p.groups + 1))
+    ended : {p : Progress X} {e : Ending} → 0 < p.groups → S.says p.subject (ends_innermost p.subject e) ≡ done
+        → CarriesOut p (ending e) (after_call p (ends_innermost p.subject e) (p.groups - 1))
+    answered : {p : Progress X} {job : ℕ} {d : Detection} {is : List RunRecord} {after : Carried} → p.written + detection_bytes ≤ length p.lent.bytes
+        → Detects (S.rows p.subject) job p.lent.records is p.lent.carrier after (Ok d) → CarriesOut p (detecting job) (after_detection p job d is after)
+
+  -- A fault stops a command: the script's own checks come first, then those of the call.
+  pub data Stops : Progress X → Command → ScriptFault → Type 0 where
+    not_edited : {p : Progress X} {e : Edit} {fault : _} → S.says p.subject (edits e) ≡ refusal fault → Stops p (makes e) (OfBook fault)
+    not_opened : {p : Progress X} {fault : _} → S.says p.subject opens ≡ refusal fault → Stops p opening (OfBook fault)
+    no_group : {p : Progress X} {e : Ending} → p.groups ≡ 0 → Stops p (ending e) NoScriptGroup
+    no_space : {p : Progress X} {job : ℕ} → length p.lent.bytes < p.written + detection_bytes → Stops p (detecting job) NoAnswerSpace
+    not_detected : {p : Progress X} {job : ℕ} {fault : _} → p.written + detection_bytes ≤ length p.lent.bytes
+        → Detects (S.rows p.subject) job p.lent.records p.lent.records p.lent.carrier p.lent.carrier (Err fault) → Stops p (detecting job) (OfDetection fault)
+
+  -- The command at the head of the bytes unread: it is carried out, and so many bytes are read; or there is a fault, and nothing changes.
+  pub data Steps : (unread : List ℕ) → Progress X → Option ScriptFault → Progress X → (bytes : ℕ) → Type 0 where
+    carries : {unread : List ℕ} {p q : Progress X} {c : Command} {n : ℕ} → head unread ≡ whole c n → CarriesOut p c q → Steps unread p None q n
+    stops : {unread : List ℕ} {p : Progress X} {c : Command} {n : ℕ} {fault : ScriptFault} → head unread ≡ whole c n → Stops p c fault → Steps unread p (Some fault) p 0
+    strange : {unread : List ℕ} {p : Progress X} {fault : ScriptFault} → unreadable (head unread) ≡ Some fault → Steps unread p (Some fault) p 0
+
+  -- So many bytes further on stands the next command.
+  abbrev pub next : Position → (bytes : ℕ) → Position
+  next here bytes = record { offset = here.offset + bytes; index = here.index + 1 }
+
+  -- From the bytes unread: to their end, or to the first fault. A position tells where the next command begins, and how many were
+  -- carried out before it.
+  pub data Reads : (unread : List ℕ) → Position → Progress X → Option ScriptFault → Position → Progress X → Type 0 where
+    finishes : {here : Position} {p : Progress X} → Reads [] here p None here p
+    faults : {unread : List ℕ} {here : Position} {p q : Progress X} {n : ℕ} {fault : ScriptFault} → Steps unread p (Some fault) q n → Reads unread here p (Some fault) here q
+    steps : {unread : List ℕ} {here there : Position} {p q r : Progress X} {n : ℕ} {o : Option ScriptFault} → Steps unread p None q n → Reads (drop n unread) (next here n) q o there r → Reads unread here p o there r
+
+  -- The innermost groups, so many, are cancelled.
+  abbrev pub cancel_groups : (groups : ℕ) → X → X
+  cancel_groups zero x = x
+  cancel_groups (suc groups) x = cancel_groups groups (S.after x (cancels (S.mark x) (S.depth x)))
+
+  -- At first nothing is written, and the script has no group open.
+  abbrev pub start : X → Lent → Progress X
+  start x lent = record { subject = x; lent = lent; written = 0; groups = 0 }
+
+  -- The answer of a script: what was carried out, how many groups were cancelled at its end, and the bytes written; or its fault.
+  abbrev pub script_answer : Option ScriptFault → Position → Progress X → Result FinishedScript StoppedScript
+  script_answer None there p = Ok (record { commands = there.index; cancelled = p.groups; written = p.written })
+  script_answer (Some fault) there p = Err (record { fault = fault; offset = there.offset; index = there.index; written = p.written })
+
+  -- A script that is not too long: commands to the end or to a fault, and then its open groups are cancelled.
+  pub record Worked (x : X) (lent : Lent) (script : List ℕ) (answer : Result FinishedScript StoppedScript) (x' : X) (lent' : Lent) : Type 0 where
+    pub fault : Option ScriptFault
+    pub there : Position
+    pub last : Progress X
+    pub reads : Reads script (record { offset = 0; index = 0 }) (start x lent) fault there last
+    pub says : answer ≡ script_answer fault there last
+    pub leaves : x' ≡ cancel_groups last.groups last.subject
+    pub lends : lent' ≡ last.lent
+
+  -- One that is too long is not begun.
+  pub record Refused (x : X) (lent : Lent) (answer : Result FinishedScript StoppedScript) (x' : X) (lent' : Lent) : Type 0 where
+    pub says : answer ≡ Err (record { fault = TooLong; offset = 0; index = 0; written = 0 })
+    pub leaves : x' ≡ x
+    pub lends : lent' ≡ lent
+
+  -- More than 8,192 bytes are refused; any other script is worked.
+  abbrev pub Scripted : X → Lent → List ℕ → Result FinishedScript StoppedScript → X → Lent → Type 0
+  Scripted x lent script answer x' lent' = MatchBool (nat_lt script_max (length script)) (Refused x lent answer x' lent') (Worked x lent script answer x' lent')

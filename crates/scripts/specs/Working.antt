@@ -1,0 +1,25 @@
+-- What the steps of a running script ask for and promise.
+use Rattle.std.specs.Prelude.{◌≡◌, ℕ, ◌≤◌, List, length, MatchResult, Result}
+use Rattle.carriers.specs.Meaning.{Carried}
+use Rattle.exchange.specs.declared.record.RunRecord.{RunRecord}
+use Rattle.scripts.specs.Commands.{Command}
+use Rattle.scripts.specs.Scripts.{Progress, CarriesOut, Stops}
+use Rattle.histories.specs.Subjects.{of_book}
+use Rattle.scripts.specs.declared.fault.ScriptFault.{ScriptFault}
+use Rattle.scripts.specs.declared.tally.Tally.{Tally}
+use Rattle.scripts.specs.Lent.{lent}
+use Rattle.store.specs.Plain.{plain}
+use Rattle.store.specs.Books.{PlainBook}
+
+-- How far a script on a book has come.
+abbrev pub far : PlainBook → List RunRecord → Carried → (bytes : List ℕ) → Tally → Progress PlainBook
+far s records carrier bytes t = record { subject = s; lent = lent records carrier bytes; written = t.written; groups = t.groups }
+
+-- A command is carried out, or a fault stops it and nothing changes.
+abbrev pub CarriedOut : Command → (before after : Progress PlainBook) → Result (Unit {0}) ScriptFault → Type 0
+CarriedOut c before after r = MatchResult r (λ _. CarriesOut (of_book plain) before c after) (λ fault. Stops (of_book plain) before c fault × (after ≡ before))
+
+-- The script has no more groups open than the book, and has written no more bytes than there are.
+pub record Within (s : PlainBook) (bytes : List ℕ) (t : Tally) : Type 0 where
+  pub groups : t.groups ≤ length s.state.groups
+  pub written : t.written ≤ length bytes

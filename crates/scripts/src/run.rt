@@ -1,0 +1,85 @@
+// Running a script.
+ghost use Rattle.std.specs.Prelude.{◌≡◌, ◌≤◌, ◌-◌, length};
+ghost use Rattle.scripts.specs.Scripts.{cancel_groups as cancelling};
+ghost use Rattle.scripts.specs.ScriptRuns.{RanScript, script_written};
+ghost use Rattle.scripts.specs.Lent.{lent};
+ghost use Rattle.histories.specs.Subjects.{of_book};
+ghost use Rattle.store.specs.Plain.{plain};
+ghost use Rattle.histories.specs.Rules.{SameGroups};
+
+use crate::fault::{FinishedScript, ScriptFault, StoppedScript};
+use crate::tally::{Position, Tally};
+use crate::work::work;
+use carriers::Carrier;
+use detection::RunRecord;
+use groups::Ending;
+use store::Store;
+
+// How many bytes a script has at most.
+pub const SCRIPT_MAX: usize = 8192;
+
+// Runs a script. Detections use the records and the carrier, and write their answers to the bytes, one behind the other. At the
+// end, and after a fault, the groups that the script has left open are cancelled.
+pub fn run_script<C: Carrier>(
+    store: &mut Store<'_>,
+    script: &[u8],
+    records: &mut [RunRecord],
+    carrier: &mut C,
+    answers: &mut [u8],
+) -> Result<FinishedScript, StoppedScript>
+    ensures ran { RanScript store.old (lent records.old (C.Carrier.carried carrier.old) answers.old) script.now result store.new (lent records.new (C.Carrier.carried carrier.new) answers.new) }
+    ensures written { script_written result ≤ length answers.new }
+    ensures groups { SameGroups store.old store.new }
+{
+    if script.len() > SCRIPT_MAX {
+        return Err(StoppedScript {
+            fault: ScriptFault::TooLong,
+            offset: 0,
+            index: 0,
+            written: 0,
+        });
+    }
+    let mut position = Position {
+        offset: 0,
+        index: 0,
+    };
+    let mut tally = Tally {
+        written: 0,
+        groups: 0,
+    };
+    let worked = work(
+        store,
+        script,
+        &mut position,
+        &mut tally,
+        records,
+        carrier,
+        answers,
+    );
+    cancel_groups(store, tally.groups);
+    match worked {
+        Ok(()) => Ok(FinishedScript {
+            commands: position.index,
+            cancelled: tally.groups,
+            written: tally.written,
+        }),
+        Err(fault) => Err(StoppedScript {
+            fault,
+            offset: position.offset,
+            index: position.index,
+            written: tally.written,
+        }),
+    }
+}
+
+// Cancels the innermost groups, so many.
+fn cancel_groups(store: &mut Store<'_>, groups: usize)
+    requires { groups ≤ length store.old.state.groups }
+    ensures value { store.new ≡ cancelling (of_book plain) groups store.old }
+    ensures mark { store.new.state.mark ≡ store.old.state.mark }
+    ensures depth { length store.new.state.groups ≡ length store.old.state.groups - groups }
+{
+    for _ in 0..groups {
+        store.end_innermost(Ending::Cancel);
+    }
+}

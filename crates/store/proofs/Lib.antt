@@ -1,0 +1,3 @@
+pub mod Told
+pub mod Lawful
+pub mod Seen

@@ -1,0 +1,173 @@
+-- Answers and states by the rules, from the ways that the program takes.
+use Rattle.std.proofs.Common.{◌≡◌, ℕ, ◌+◌, ◌<◌, ◌≤◌, Bool, true, false, cond, not, ◌||◌, ltb, leb, ◌⊎◌, List, length, IsErrAnd, Some, None, Ok, Err, Option, Result, sym, refl, ap, ◌∙◌, arith}
+use Rattle.std.proofs.lemmas.Bool.{le-leb, lt-leb, lt-ltb, le-ltb}
+use Rattle.std.proofs.lemmas.Bool.Decides.{nat_tests}
+use Rattle.std.specs.Option.{ok_or}
+use Rattle.rows.specs.declared.plain.PlainRow.{PlainRow}
+use Rattle.rows.specs.declared.plain.Row.{Row}
+use Rattle.rows.specs.declared.plain.RowFault.{RowFault}
+use Rattle.rows.specs.declared.plain.RowFault.TheVariants.{WrongCounts as RowCounts}
+use Rattle.rows.specs.Law.{row_fits}
+use Rattle.rows.proofs.Laws.{sound_fits, grant_fits}
+use Rattle.rows.specs.Waiting.{Waiting, at, among}
+use Rattle.rows.specs.Changes.{wrong_counts, first_wrong, granted}
+use Rattle.rows.specs.Views.{StoredWhole, waiting, waiting_of, seen_some, placed, requested, granted_by}
+use Rattle.groups.specs.declared.store.Stub.{Stub}
+use Rattle.groups.specs.Views.{view}
+use Rattle.groups.proofs.Viewed.{view_written}
+use Rattle.groups.specs.State.{State, face, full, written, opened}
+use Rattle.store.specs.declared.fault.BookFault.{BookFault}
+use Rattle.store.specs.declared.fault.BookFault.TheVariants.{NoSuchJob, Blocked, WrongCounts, TrailFull, GranterBlocked, NoSuchWait, TooDeep}
+use Rattle.store.specs.Faults.{of_row}
+use Rattle.store.specs.Calls.{Edit, requests, grants}
+use Rattle.histories.specs.Calls.{edits, opens}
+use Rattle.histories.specs.Rules.{says, held}
+use Rattle.histories.specs.Answers.{Answer, done}
+use Rattle.store.specs.Answers.{refusal, refused_at}
+use Rattle.store.specs.Views.{told, told_stub}
+use Rattle.histories.specs.Histories.{Called}
+use Rattle.store.specs.Memory.{Lawful}
+use Rattle.histories.specs.Told.{told_stub as told_opened}
+use Rattle.histories.proofs.Calling.{open_called, stopped_called, edit_called}
+use Rattle.store.proofs.Lawful.{written_lawful}
+use Rattle.store.proofs.Seen.{jobs_seen, wide, fits_at}
+use Rattle.tables.specs.Tables.{lawful}
+use Rattle.store.specs.Plain.{plain}
+use Rattle.store.specs.Books.{PlainBook, book_of}
+
+-- ---- groups
+
+-- an opening's answer
+opening_told : (r : Option Stub) → told_stub (ok_or r TooDeep) ≡ told_opened r
+opening_told (Some k) = refl
+opening_told None = refl
+
+pub opening_called : (n : ℕ) (s t : State PlainRow) (r : Option Stub) → r ≡ cond (ltb (face s).depth 8) (Some (record { mark = s.mark; depth = (face s).depth + 1 })) None → t ≡ cond (ltb (face s).depth 8) (opened s) s → Called plain (book_of (view n waiting s)) opens (told_stub (ok_or r TooDeep)) (book_of (view n waiting t))
+opening_called n s t r e f = rw (opening_told r) (open_called n waiting plain tt s t r e f)
+
+-- ---- edits
+
+-- a row that is written, as it is stored
+module _ (n : ℕ) (s : State PlainRow) (l : Lawful n s) (job : ℕ) (row : Row) (p : PlainRow) (h : StoredWhole row p) (less : job < length (view n waiting s).rows) where
+  below : job < n
+  below = rw (jobs_seen n s l) at less
+
+  pub write_lawful : row_fits (length (view n waiting s).rows) job (waiting_of row) ≡ true → Lawful n (written s job p)
+  write_lawful fits =
+      written_lawful n s l job p below (sound_fits n job p h.lawful (ap (λ w. row_fits n job (waiting w)) h.value ∙ ap (λ k. row_fits k job (waiting_of row)) (sym (jobs_seen n s l)) ∙ fits))
+
+  pub write_seen : book_of (view n waiting (written s job p)) ≡ book_of (written (view n waiting s) job (waiting_of row))
+  write_seen = ap book_of (view_written n waiting s job p (wide n s l) below ∙ ap (λ w. written (view n waiting s) job (waiting w)) h.value)
+
+-- a fault that is carried on
+pub carried_fault : (r : Result (Unit {0}) BookFault) (e : BookFault) → IsErrAnd r (λ y. y ≡ e) → told r ≡ refusal e
+carried_fault (Ok u) e h = absurd h
+carried_fault (Err f) e h = ap refusal h
+
+-- a row that is there to be written
+pub row_there : (w : Option Row) (row : Row) (e : BookFault) → Ok row ≡ ok_or w e → Some (waiting_of row) ≡ seen_some w
+row_there None row e h = absurd (cc h)
+row_there (Some v) row e h = let same : row ≡ v = cc h in ap (λ r. Some (waiting_of r)) same
+
+-- a row that is granted, or is not there to be
+grant_none : (u : ℕ) (w : Waiting) → None ≡ granted_by u w → among u w.targets ≡ false
+grant_none u w e = go (among u w.targets) e
+  where
+    go : (q : Bool) → None ≡ cond {A = Option Waiting} q (Some (granted u w)) None → q ≡ false
+    go true h = absurd (cc h)
+    go false h = refl
+
+grant_some : (u : ℕ) (w v : Waiting) → Some v ≡ granted_by u w → (among u w.targets ≡ true) × (v ≡ granted u w)
+grant_some u w v e = go (among u w.targets) e
+  where
+    go : (q : Bool) → Some v ≡ cond {A = Option Waiting} q (Some (granted u w)) None → (q ≡ true) × (v ≡ granted u w)
+    go true h = (refl, cc)
+    go false h = absurd (cc h)
+
+-- the answer where a row is not made, or else the rest of the checks
+abbrev stop_of : Result Waiting RowFault → Answer → Answer
+stop_of (Ok w) rest = rest
+stop_of (Err e) rest = refusal (of_row e)
+
+made_told : (q : Bool) (p : Option ℕ) (w : Waiting) (rest : Answer) → cond q (refusal WrongCounts) (refused_at p rest) ≡ stop_of (cond q (Err RowCounts) (placed p w)) rest
+made_told true p w rest = refl
+made_told false None w rest = refl
+made_told false (Some place) w rest = refl
+
+placed_is : (q : Bool) (p : Option ℕ) (w v : Waiting) → cond {A = Result Waiting RowFault} q (Err RowCounts) (placed p w) ≡ Ok v → w ≡ v
+placed_is true p w v e = absurd (cc e)
+placed_is false None w v e = cc
+placed_is false (Some place) w v e = absurd (cc e)
+
+module _ (s : PlainBook) (n : ℕ) (jobs : n ≡ length s.state.rows) where
+  refused : (e : Edit) (fault : BookFault) → refusal fault ≡ says plain s (edits e) → Called plain s (edits e) (refusal fault) s
+  refused e fault p = stopped_called plain s e (refusal fault) (refusal fault) refl refl p
+
+  module _ (job need : ℕ) (targets : List ℕ) where
+    pub no_job : n ≤ job → Called plain s (edits (requests job need targets)) (refusal NoSuchJob) s
+    no_job l =
+        let q : leb (length s.state.rows) job ≡ true = le-leb _ _ (omega (arith, jobs)) in
+        refused (requests job need targets) NoSuchJob (rw q)
+
+    pub is_blocked : job < n → 0 < (at s.state.rows job).need → Called plain s (edits (requests job need targets)) (refusal Blocked) s
+    is_blocked l b =
+        let q : leb (length s.state.rows) job ≡ false = lt-leb _ _ (omega (arith, jobs)) in
+        let r : ltb 0 (at s.state.rows job).need ≡ true = lt-ltb _ _ b in
+        refused (requests job need targets) Blocked (rw (q, r))
+
+    request_says : job < n → (at s.state.rows job).need ≤ 0 → says plain s (edits (requests job need targets)) ≡ stop_of (requested n job need targets) (cond (full s.state.room (face s.state)) (refusal TrailFull) done)
+    request_says l b =
+        let q : leb (length s.state.rows) job ≡ false = lt-leb _ _ (omega (arith, jobs)) in
+        let r : ltb 0 (at s.state.rows job).need ≡ false = le-ltb _ _ b in
+        rw (q, r, ← jobs) (made_told (wrong_counts need (length targets)) (first_wrong n job 0 0 targets) (record { need = need; targets = targets }) _)
+
+    pub no_row : job < n → (at s.state.rows job).need ≤ 0 → (e : RowFault) (r : Result (Unit {0}) BookFault) → Err e ≡ requested n job need targets → IsErrAnd r (λ y. y ≡ of_row e) → Called plain s (edits (requests job need targets)) (told r) s
+    no_row l b e r f h =
+        stopped_called plain s (requests job need targets) (told r) (refusal (of_row e)) refl (carried_fault r (of_row e) h)
+        (sym (request_says l b ∙ ap (λ k. stop_of k (cond (full s.state.room (face s.state)) (refusal TrailFull) done)) (sym f)))
+
+    pub request_called : job < n → (at s.state.rows job).need ≤ 0 → (w : Waiting) (a : Answer) (t : PlainBook) → Ok w ≡ requested n job need targets → a ≡ cond (full s.state.room (face s.state)) (refusal TrailFull) done → t ≡ cond (full s.state.room (face s.state)) s (held s.fixed (written s.state job w)) → Called plain s (edits (requests job need targets)) a t
+    request_called l b w a t f g h =
+        edit_called plain s t (requests job need targets) w a
+        (sym (placed_is (wrong_counts need (length targets)) (first_wrong n job 0 0 targets) (record { need = need; targets = targets }) w (sym f)))
+        (request_says l b ∙ ap (λ k. stop_of k (cond (full s.state.room (face s.state)) (refusal TrailFull) done)) (sym f))
+        g h
+
+  module _ (granter waiter : ℕ) where
+    pub no_jobs : (n ≤ granter) ⊎ ((granter < n) × (n ≤ waiter)) → Called plain s (edits (grants granter waiter)) (refusal NoSuchJob) s
+    no_jobs past =
+        let k = jobs in
+        let q : (leb (length s.state.rows) granter || leb (length s.state.rows) waiter) ≡ true = grind (arith, nat_tests) in
+        refused (grants granter waiter) NoSuchJob (rw q)
+
+    both : granter < n → waiter < n → (leb (length s.state.rows) granter || leb (length s.state.rows) waiter) ≡ false
+    both l m = let k = jobs in grind (arith, nat_tests)
+
+    pub is_stuck : granter < n → waiter < n → 0 < (at s.state.rows granter).need → Called plain s (edits (grants granter waiter)) (refusal GranterBlocked) s
+    is_stuck l m b =
+        let r : ltb 0 (at s.state.rows granter).need ≡ true = lt-ltb _ _ b in
+        refused (grants granter waiter) GranterBlocked (rw (both l m, r))
+
+    grant_says : granter < n → waiter < n → (at s.state.rows granter).need ≤ 0 → says plain s (edits (grants granter waiter)) ≡ cond (not (among granter (at s.state.rows waiter).targets)) (refusal NoSuchWait) (cond (full s.state.room (face s.state)) (refusal TrailFull) done)
+    grant_says l m b =
+        let r : ltb 0 (at s.state.rows granter).need ≡ false = le-ltb _ _ b in
+        rw (both l m, r)
+
+    pub no_wait : granter < n → waiter < n → (at s.state.rows granter).need ≤ 0 → (w : Option Row) (e : BookFault) (r : Result (Unit {0}) BookFault) → seen_some w ≡ granted_by granter (at s.state.rows waiter) → Err e ≡ ok_or w NoSuchWait → IsErrAnd r (λ y. y ≡ e) → Called plain s (edits (grants granter waiter)) (told r) s
+    no_wait l m b None e r f g h =
+        let same : e ≡ NoSuchWait = cc g in
+        stopped_called plain s (grants granter waiter) (told r) (refusal NoSuchWait) refl (carried_fault r e h ∙ ap refusal same)
+        (sym (grant_says l m b ∙ ap (λ q. cond (not q) (refusal NoSuchWait) (cond (full s.state.room (face s.state)) (refusal TrailFull) done)) (grant_none granter (at s.state.rows waiter) f)))
+    no_wait l m b (Some w) e r f g h = absurd (cc g)
+
+    pub grant_called : granter < n → waiter < n → (at s.state.rows granter).need ≤ 0 → (w : Waiting) (a : Answer) (t : PlainBook) → Some w ≡ granted_by granter (at s.state.rows waiter) → a ≡ cond (full s.state.room (face s.state)) (refusal TrailFull) done → t ≡ cond (full s.state.room (face s.state)) s (held s.fixed (written s.state waiter w)) → Called plain s (edits (grants granter waiter)) a t
+    grant_called l m b w a t e g h =
+        let some = grant_some granter (at s.state.rows waiter) w e in
+        edit_called plain s t (grants granter waiter) w a some.1
+        (grant_says l m b ∙ ap (λ q. cond (not q) (refusal NoSuchWait) (cond (full s.state.room (face s.state)) (refusal TrailFull) done)) some.0)
+        g h
+
+    pub granted_fits : lawful s.state.rows ≡ true → waiter < n → (w : Waiting) → Some w ≡ granted_by granter (at s.state.rows waiter) → row_fits (length s.state.rows) waiter w ≡ true
+    granted_fits o m w e =
+        let some = grant_some granter (at s.state.rows waiter) w e in
+        ap (row_fits (length s.state.rows) waiter) some.1 ∙ grant_fits (length s.state.rows) waiter granter (at s.state.rows waiter) (fits_at s.state.rows waiter o (omega (arith, jobs))) some.0

@@ -1,0 +1,24 @@
+use Rattle.std.proofs.Common.{length, ap, ◌∙◌}
+use Rattle.rows.specs.Waiting.{idle}
+use Rattle.rows.specs.Views.{waiting}
+use Rattle.groups.specs.State.{fresh}
+use Rattle.groups.specs.Views.{view}
+use Rattle.groups.proofs.Viewed.{view_fresh}
+use Rattle.store.specs.Creation.{created}
+use Rattle.store.specs.Plain.{plain}
+use Rattle.histories.proofs.Following.{fresh_shows}
+use Rattle.store.proofs.Lawful.{fresh_lawful}
+use Rattle.store.proofs.store.Store.new.Goals as goal
+use Rattle.store.specs.Books.{book_of}
+
+pub invariant_of-result : goal.invariant_of-result
+invariant_of-result c =
+    rw c.new.ensures (fresh_lawful c.created.result c.args.mark (length c.args.memory.now) c.idle.result c.created.ensures.bound c.idle.ensures.value c.idle.ensures.lawful)
+
+pub returns : goal.returns
+returns c =
+    let n = c.created.result in
+    let mark = c.args.mark in
+    let memory = length c.args.memory.now in
+    let shown = ap (view n waiting) c.new.ensures ∙ view_fresh n waiting 256 c.idle.result mark memory c.created.ensures.bound ∙ ap (λ r. fresh n r mark memory) c.idle.ensures.value ∙ ap (λ k. fresh k idle mark memory) c.created.ensures.value in
+    record { value = ap book_of shown; shows = fresh_shows plain _ (created c.args.jobs) mark memory shown }

@@ -1,0 +1,5 @@
+use Rattle.store.proofs.Seen.{lawful_seen}
+use Rattle.store.proofs.store.questions.StoreTable.jobs.Goals as goal
+
+pub returns-clause-lawful : goal.returns-clause-lawful
+returns-clause-lawful c = rw (← c.self.view_is) (lawful_seen c.self.inside.jobs c.self.inside.groups c.self.invariant)

@@ -1,0 +1,9 @@
+pub mod Books
+pub mod Calls
+pub mod Answers
+pub mod Plain
+pub mod Creation
+pub mod Faults
+pub mod Views
+pub mod Memory
+pub mod Snapshots

@@ -1,0 +1,31 @@
+-- What the calls and answers of the program stand for.
+use Rattle.std.specs.Prelude.{Ok, Err, Result}
+use Rattle.groups.specs.declared.store.Stub.{Stub}
+use Rattle.store.specs.declared.calls.Edit.{Edit}
+use Rattle.store.specs.declared.calls.Edit.TheVariants.{Grant, Request}
+use Rattle.store.specs.declared.fault.BookFault.{BookFault}
+use Rattle.store.specs.declared.fault.RefusedStub.{RefusedStub}
+use Rattle.store.specs.Faults.{number}
+use Rattle.store.specs.Calls.{requests, grants, Edit as EditCall}
+use Rattle.histories.specs.Answers.{Answer, done, ticket, returned}
+use Rattle.store.specs.Answers.{refusal}
+
+-- Of an edit: done, or its refusal.
+abbrev pub told : Result (Unit {0}) BookFault → Answer
+told (Ok u) = done
+told (Err fault) = refusal fault
+
+-- Of an opening, by its stub: the ticket that tells the same; or its refusal.
+abbrev pub told_stub : Result Stub BookFault → Answer
+told_stub (Ok k) = ticket k.mark k.depth
+told_stub (Err fault) = refusal fault
+
+-- Of an ending, by its stub: done, or its refusal with the stub that comes back.
+abbrev pub told_ending_by : Result (Unit {0}) RefusedStub → Answer
+told_ending_by (Ok u) = done
+told_ending_by (Err e) = returned (number e.fault) e.stub.mark e.stub.depth
+
+-- The edit that a value of the program says.
+abbrev pub edit_of : Edit → EditCall
+edit_of (Grant granter waiter) = grants granter waiter
+edit_of (Request job need targets) = requests job need targets.now

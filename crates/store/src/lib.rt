@@ -1,0 +1,12 @@
+// The plain store: which job waits for which, with groups of edits that are kept or cancelled, by stubs: who owns a store decides who may.
+#![tactic(auto)]
+
+mod calls;
+mod fault;
+mod snapshot;
+mod store;
+
+pub use calls::Edit;
+pub use fault::{BookFault, RefusedStub};
+pub use snapshot::Snapshot;
+pub use store::Store;

@@ -1,0 +1,28 @@
+// The book's data, with its law.
+mod calls;
+mod questions;
+
+use groups::Groups;
+use rows::PlainRow;
+use std::marker::Model;
+
+// The rows of the first `jobs` jobs, under groups, which have 256 rows whatever the number of jobs: memory is fixed. A clause sees
+// a book: what its creation has fixed, the rows of its jobs, what each open group would undo, its mark, and the trail's size.
+#[derive(Drop)]
+pub struct Store<'a> {
+    jobs: usize,
+    groups: Groups<'a, PlainRow>,
+}
+
+impl<'a> Model for Store<'a> {
+    ghost use Rattle.rows.specs.Views.{waiting};
+    ghost use Rattle.groups.specs.Views.{view as seen};
+    ghost use Rattle.store.specs.Books.{PlainBook, book_of};
+    ghost use Rattle.store.specs.Memory.{Lawful};
+
+    ghost Value = { PlainBook };
+
+    ghost view = { λ b. book_of (seen b.jobs waiting b.groups) };
+
+    ghost invariant = { λ b. Lawful b.jobs b.groups };
+}

@@ -1,0 +1,133 @@
+// Creation, and the five calls.
+ghost use Rattle.std.specs.Prelude.{◌≡◌, ◌<◌, ◌≤◌, ◌-◌, true, length, if◌then◌else◌};
+ghost use Rattle.rows.specs.Law.{row_fits};
+ghost use Rattle.rows.specs.Views.{waiting_of};
+ghost use Rattle.groups.specs.State.{face, full, written};
+ghost use Rattle.groups.specs.History.{begun};
+ghost use Rattle.store.specs.declared.fault.BookFault.TheVariants.{TrailFull};
+ghost use Rattle.histories.specs.Calls.{edits, opens, ends};
+ghost use Rattle.store.specs.Calls.{requests, grants};
+ghost use Rattle.histories.specs.Answers.{done};
+ghost use Rattle.store.specs.Answers.{refusal};
+ghost use Rattle.histories.specs.Histories.{Shows, Called};
+ghost use Rattle.store.specs.Creation.{created, new_book};
+ghost use Rattle.tables.specs.Tables.{jobs_max};
+ghost use Rattle.store.specs.Views.{told, told_stub, told_ending_by, edit_of};
+ghost use Rattle.store.specs.Plain.{plain};
+ghost use Rattle.histories.specs.Rules.{held, says, after};
+
+use crate::calls::Edit;
+use crate::fault::{BookFault, RefusedStub};
+use crate::store::Store;
+use groups::{Ending, Groups, Old, Stub};
+use rows::{PlainRow, Row};
+use tables::{JOBS_MAX, Table};
+
+// How many jobs a book is created with: none where more are asked for than there can be.
+fn created(jobs: usize) -> usize
+    ensures value { result ≡ created jobs }
+    ensures bound { result ≤ jobs_max }
+{
+    if jobs <= JOBS_MAX { jobs } else { 0 }
+}
+
+impl<'a> Store<'a> {
+    // A book in which every job is active. Its stubs will carry the mark, and what its groups would undo lies in the
+    // lent memory. Where more than 256 jobs are asked for, it has none.
+    pub fn new(jobs: usize, mark: u16, memory: &'a mut [Old<PlainRow>]) -> Store<'a>
+        ensures value { result ≡ new_book jobs mark (length memory.old) }
+        ensures shows { Shows plain result begun }
+    {
+        Store {
+            jobs: created(jobs),
+            groups: Groups::new(PlainRow::idle(), mark, memory),
+        }
+    }
+
+    // A request: an active job waits for `need` of the targets, which are listed by rising number.
+    pub fn request(&mut self, job: usize, need: u8, targets: &[u8]) -> Result<(), BookFault>
+        ensures { Called plain self.old (edits (requests job need targets.now)) (told result) self.new }
+    {
+        let jobs = self.jobs();
+        if job >= jobs {
+            return Err(BookFault::NoSuchJob);
+        }
+        if self.row(job).need() > 0 {
+            return Err(BookFault::Blocked);
+        }
+        let row = Row::request(jobs, job, need, targets)?;
+        self.write(job, row)
+    }
+
+    // A grant: the waiter no longer waits for the granter, which is active, and needs one less; when it needs none, its
+    // other waits go too.
+    pub fn grant(&mut self, granter: usize, waiter: usize) -> Result<(), BookFault>
+        ensures { Called plain self.old (edits (grants granter waiter)) (told result) self.new }
+    {
+        let jobs = self.jobs();
+        if granter >= jobs || waiter >= jobs {
+            return Err(BookFault::NoSuchJob);
+        }
+        if self.row(granter).need() > 0 {
+            return Err(BookFault::GranterBlocked);
+        }
+        let row = self
+            .row(waiter)
+            .granted(granter)
+            .ok_or(BookFault::NoSuchWait)?;
+        self.write(waiter, row)
+    }
+
+    // Writes the row of a job; refused, with nothing changed, if the trail is full.
+    fn write(&mut self, job: usize, row: Row) -> Result<(), BookFault>
+        requires job { job < length self.old.state.rows }
+        requires lawful { row_fits (length self.old.state.rows) job (waiting_of row) ≡ true }
+        ensures value { told result ≡ (if full self.old.state.room (face self.old.state) then refusal TrailFull else done) }
+        ensures after { self.new ≡ (if full self.old.state.room (face self.old.state) then self.old else held self.old.fixed (written self.old.state job (waiting_of row))) }
+    {
+        Ok(self.groups.write(job as u8, row.into())?)
+    }
+
+    // Opens a group inside the others, and answers its stub.
+    pub fn open(&mut self) -> Result<Stub, BookFault>
+        ensures { Called plain self.old opens (told_stub result) self.new }
+    {
+        self.groups.open().ok_or(BookFault::TooDeep)
+    }
+
+    // Ends the innermost group: its edits stay, undone only if the group around it is cancelled; or every row is as it was when the
+    // group was opened. A stub that is not the innermost group's comes back.
+    pub fn end(&mut self, ending: Ending, stub: Stub) -> Result<(), RefusedStub>
+        ensures { Called plain self.old (ends ending stub.mark stub.depth) (told_ending_by result) self.new }
+    {
+        match self.groups.end(ending, stub) {
+            Ok(()) => Ok(()),
+            Err(stub) => Err(RefusedStub {
+                fault: BookFault::NotInnermost,
+                stub,
+            }),
+        }
+    }
+
+    // Ends the innermost group, as its stub would.
+    pub fn end_innermost(&mut self, ending: Ending)
+        requires { 0 < length self.old.state.groups }
+        ensures value { says plain self.old (ends ending self.old.state.mark (length self.old.state.groups)) ≡ done }
+        ensures after { self.new ≡ after plain self.old (ends ending self.old.state.mark (length self.old.state.groups)) }
+        ensures mark { self.new.state.mark ≡ self.old.state.mark }
+        ensures depth { length self.new.state.groups ≡ length self.old.state.groups - 1 }
+    {
+        let innermost = self.groups.innermost();
+        let _ = self.end(ending, innermost);
+    }
+
+    // Makes an edit.
+    pub fn edit(&mut self, edit: Edit<'_>) -> Result<(), BookFault>
+        ensures { Called plain self.old (edits (edit_of edit.entry)) (told result) self.new }
+    {
+        match edit {
+            Edit::Grant { granter, waiter } => self.grant(granter, waiter),
+            Edit::Request { job, need, targets } => self.request(job, need, targets),
+        }
+    }
+}

@@ -1,0 +1,93 @@
+// What a book tells, as a table that is read both ways. Beyond the last job every row is idle.
+ghost use Rattle.std.specs.Prelude.{◌≡◌, ◌≤◌, true, length, IfSome};
+ghost use Rattle.rows.specs.Waiting.{at};
+ghost use Rattle.rows.specs.Law.{sound};
+ghost use Rattle.rows.specs.Views.{waiting_of, waiting_or_idle};
+ghost use Rattle.groups.specs.Limits.{depth_max};
+ghost use Rattle.store.specs.Snapshots.{snapshot_view};
+ghost use Rattle.histories.specs.Subjects.{of_book, view_of};
+ghost use Rattle.store.specs.Plain.{plain};
+
+use crate::snapshot::Snapshot;
+use crate::store::Store;
+use rows::{PlainRow, Row};
+use tables::{Table, TwoWayTable};
+
+impl<'a> Store<'a> {
+    // The row of a job, as it is stored. Questions read it so, since a check for each would be most of a detection's work.
+    fn stored(&self, job: usize) -> Option<&PlainRow>
+        ensures value { waiting_or_idle result ≡ at self.now.state.rows job }
+        ensures lawful { IfSome result (λ p. sound p.now.need p.now.count p.now.targets ≡ true) }
+    {
+        self.groups.rows()[..self.jobs].get(job)
+    }
+
+    // The row of a job, checked; as every stored row obeys the law, the check can't fail.
+    pub fn row(&self, job: usize) -> Row
+        ensures { waiting_of result ≡ at self.now.state.rows job }
+    {
+        match self.stored(job) {
+            Some(plain) => Row::try_from(*plain).unwrap(),
+            None => Row::idle(),
+        }
+    }
+
+    // The targets of a job.
+    fn targets_of(&self, job: usize) -> &[u8]
+        ensures { result.now ≡ (at self.now.state.rows job).targets }
+    {
+        match self.stored(job) {
+            Some(plain) => plain.in_use(),
+            None => &[],
+        }
+    }
+
+    // What is seen of the book.
+    pub fn snapshot(&self) -> Snapshot
+        ensures { snapshot_view result ≡ view_of (of_book plain) self.now }
+    {
+        Snapshot {
+            jobs: self.jobs,
+            rows: *self.groups.rows(),
+            depth: self.depth(),
+        }
+    }
+
+    // How many groups are open.
+    pub fn depth(&self) -> usize
+        ensures value { result ≡ length self.now.state.groups }
+        ensures bound { result ≤ depth_max }
+    {
+        self.groups.depth()
+    }
+}
+
+impl<'a> Table for Store<'a> {
+    ghost rows = { λ b. b.state.rows };
+
+    fn jobs(&self) -> usize {
+        self.jobs
+    }
+
+    fn need(&self, job: usize) -> u8 {
+        self.stored(job).map_or(0, |plain| plain.need)
+    }
+
+    fn target_count(&self, job: usize) -> usize {
+        self.targets_of(job).len()
+    }
+
+    fn target(&self, job: usize, place: usize) -> Option<u8> {
+        self.targets_of(job).get(place).copied()
+    }
+
+    fn waits_for(&self, waiter: usize, job: usize) -> bool {
+        // no target is beyond the last job
+        job < self.jobs
+            && self
+                .stored(waiter)
+                .is_some_and(|plain| plain.waits_for(job as u8))
+    }
+}
+
+impl<'a> TwoWayTable for Store<'a> {}
