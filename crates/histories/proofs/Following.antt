@@ -1,15 +1,15 @@
 -- A call that answers and changes the book by the rules follows every history that the book shows.
-use Rattle.std.proofs.Common.{◌≡◌, ℕ, ◌-◌, Bool, true, false, cond, List, [], ◌∷◌, length, replicate, sym, refl, ap, ◌∙◌, subst, arith}
+use Rattle.std.proofs.Common.{◌≡◌, ◌-◌, Bool, true, false, cond, List, [], ◌∷◌, length, replicate, sym, refl, ap, ◌∙◌, subst, arith}
 use Rattle.std.proofs.lemmas.List.{length-set, length-replicate}
-use Rattle.groups.specs.State.{State, fresh, old_row, noted, merged, outside}
+use Rattle.groups.specs.State.{State, old_row, noted, merged, outside}
 use Rattle.groups.specs.History.{History, begun}
 use Rattle.groups.specs.Shows.{ShowsFrom}
 use Rattle.groups.proofs.Shown.{shows_face, write_shows, open_shows, keep_shows, cancel_shows}
 use Rattle.groups.proofs.Viewed.{length-restored}
 use Rattle.histories.specs.Calls.{Call, edits, opens, keeps, cancels}
 use Rattle.histories.specs.Answers.{Answer, accepted}
-use Rattle.histories.specs.Rules.{Held, Rules, answer, says, after, changed, changed_state}
-use Rattle.histories.specs.Histories.{answers, listed, fed, terms, depth_after, Shows, Follows, Called}
+use Rattle.histories.specs.Rules.{Terms, Held, terms, Rules, fresh_book, answer, says, after, changed, changed_state}
+use Rattle.histories.specs.Histories.{answers, listed, fed, depth_after, Shows, Follows, Called}
 
 -- how many groups are open after a call
 length-noted : {X : Type 0} (gs : List (List X)) (x : X) → length (noted gs x) ≡ length gs
@@ -40,7 +40,7 @@ module _ {P E K : Type 0} (R : Rules P E K) where
   changed_shows first s (cancels mark depth) h w = cancel_shows R.job_of R.next_row first s h w
 
   pub says_answers : (s : Held P K) (c : Call E) (h : History E) → Shows R s h → says R s c ≡ answers R (terms s) h c
-  says_answers s c h w = ap (λ f. answer R s.fixed s.state.mark s.state.room f c) (shows_face R.job_of R.next_row (replicate (length s.state.rows) R.idle) s.state h w)
+  says_answers s c h w = ap (λ f. answer R (terms s) f c) (shows_face R.job_of R.next_row (replicate (length s.state.rows) R.idle) s.state h w)
 
   pub after_shows : (s : Held P K) (c : Call E) (h : History E) → Shows R s h → Shows R (after R s c) (fed R (terms s) h c)
   after_shows s c h w = go (accepted (says R s c)) (accepted (answers R (terms s) h c)) (ap accepted (says_answers s c h w))
@@ -85,5 +85,5 @@ module _ {P E K : Type 0} (R : Rules P E K) where
   }
 
   -- a new book shows the history in which nothing has happened
-  pub fresh_shows : (s : Held P K) (n mark memory : ℕ) → s.state ≡ fresh n R.idle mark memory → Shows R s begun
-  fresh_shows s n mark memory e = subst (λ t. ShowsFrom R.job_of R.next_row (replicate (length t.rows) R.idle) t begun) (sym e) (ap (λ k. replicate k R.idle) (sym (length-replicate n R.idle)))
+  pub fresh_shows : (t : Terms K) → Shows R (fresh_book R t) begun
+  fresh_shows t = ap (λ k. replicate k R.idle) (sym (length-replicate t.jobs R.idle))

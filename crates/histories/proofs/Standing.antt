@@ -1,15 +1,14 @@
 -- A book beside a history that it shows: they answer alike, and go on alike.
-use Rattle.std.proofs.Common.{◌≡◌, ℕ, Bool, true, false, cond, length, min, replicate, refl, ap, ◌∙◌, subst}
+use Rattle.std.proofs.Common.{◌≡◌, Bool, true, false, cond, length, replicate, refl, ap, ◌∙◌, subst}
 use Rattle.std.proofs.lemmas.List.{length-replicate}
 use Rattle.groups.specs.declared.store.Ending.{Ending}
-use Rattle.groups.specs.Limits.{trail_max}
 use Rattle.groups.specs.History.{History, begun}
-use Rattle.groups.specs.State.{face, fresh}
+use Rattle.groups.specs.State.{face}
 use Rattle.groups.proofs.Shown.{shows_face}
 use Rattle.histories.specs.Answers.{accepted}
 use Rattle.histories.specs.Calls.{Call, edits, opens, keeps, cancels, ends}
-use Rattle.histories.specs.Rules.{Held, held, Rules, says, after, changed}
-use Rattle.histories.specs.Histories.{Terms, terms, face_of, answers, fed, Shows}
+use Rattle.histories.specs.Rules.{Terms, Held, terms, Rules, fresh_book, says, after, changed}
+use Rattle.histories.specs.Histories.{face_of, answers, fed, Shows}
 use Rattle.histories.specs.Subjects.{of_book, of_history, view_of}
 use Rattle.histories.proofs.Following.{length-changed, says_answers, after_shows, fresh_shows}
 
@@ -59,8 +58,8 @@ module _ {P E K : Type 0} (R : Rules P E K) where
     same_view = ap (λ rows. record { rows = rows; depth = length s.state.groups }) same_rows ∙ ap (λ d. record { rows = (face_of R t h).rows; depth = d }) same_depth
 
   -- so it is at creation
-  pub new_stands : (jobs mark memory : ℕ) (k : K) → Stands (record { jobs = jobs; mark = mark; room = min memory trail_max; fixed = k }) (held k (fresh jobs R.idle mark memory)) begun
-  new_stands jobs mark memory k = record {
-    told = ap (λ n. record { jobs = n; mark = mark; room = min memory trail_max; fixed = k }) (length-replicate jobs R.idle);
-    shows = fresh_shows R (held k (fresh jobs R.idle mark memory)) jobs mark memory refl;
+  pub fresh_stands : (t : Terms K) → Stands t (fresh_book R t) begun
+  fresh_stands t = record {
+    told = ap (λ n. record { jobs = n; mark = t.mark; room = t.room; fixed = t.fixed }) (length-replicate t.jobs R.idle);
+    shows = fresh_shows R t;
   }

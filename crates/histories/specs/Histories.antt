@@ -5,18 +5,7 @@ use Rattle.groups.specs.History.{History, join, nest, merge, forget, history_fac
 use Rattle.groups.specs.Shows.{ShowsFrom}
 use Rattle.histories.specs.Answers.{Answer, accepted}
 use Rattle.histories.specs.Calls.{Call, edits, opens, keeps, cancels}
-use Rattle.histories.specs.Rules.{Held, Rules, answer, says, after}
-
--- What a history is told at creation: the number of jobs, the mark, how many records the trail has, and what this kind of book fixes besides.
-pub record Terms (K : Type 0) : Type 0 where
-  pub jobs : ℕ
-  pub mark : ℕ
-  pub room : ℕ
-  pub fixed : K
-
--- What the history of a book was told.
-abbrev pub terms : {P K : Type 0} → Held P K → Terms K
-terms b = record { jobs = length b.state.rows; mark = b.state.mark; room = b.state.room; fixed = b.fixed }
+use Rattle.histories.specs.Rules.{Terms, Held, terms, Rules, answer, says, after}
 
 -- What an accepted call does to the lists.
 abbrev pub listed : {E : Type 0} → History E → Call E → History E
@@ -39,7 +28,7 @@ module _ {P E K : Type 0} (R : Rules P E K) where
 
   -- A history's answer goes by its own rows and lists.
   abbrev pub answers : Terms K → History E → Call E → Answer
-  answers t h c = answer R t.fixed t.mark t.room (face_of t h) c
+  answers t h c = answer R t (face_of t h) c
 
   -- A history fed a call; a refused call changes no list.
   abbrev pub fed : Terms K → History E → Call E → History E

@@ -3,8 +3,8 @@ use Rattle.std.specs.Prelude.{ℕ, List, length}
 use Rattle.groups.specs.History.{History}
 use Rattle.histories.specs.Answers.{Answer}
 use Rattle.histories.specs.Calls.{Call}
-use Rattle.histories.specs.Rules.{Held, Rules, says, after}
-use Rattle.histories.specs.Histories.{Terms, face_of, answers, fed}
+use Rattle.histories.specs.Rules.{Terms, Held, Rules, says, after}
+use Rattle.histories.specs.Histories.{face_of, answers, fed}
 
 -- What a subject answers to a call, what it is afterwards, and what can be seen of it; and the mark of its tickets.
 pub record Subject (P E X : Type 0) : Type 0 where

@@ -4,12 +4,12 @@ use Rattle.groups.specs.History.{History}
 use Rattle.detection.specs.Detects.{Detects}
 use Rattle.histories.specs.Answers.{Answer}
 use Rattle.histories.specs.Calls.{Call}
-use Rattle.histories.specs.Rules.{Held, Rules}
-use Rattle.histories.specs.Histories.{Terms, Called}
+use Rattle.histories.specs.Rules.{Terms, Held, Rules}
+use Rattle.histories.specs.Histories.{Called}
 use Rattle.histories.specs.Subjects.{of_book, of_history, View}
-use Rattle.histories.proofs.Standing.{Stands, same_rows, same_answer, same_view, stands_after, new_stands}
+use Rattle.histories.proofs.Standing.{Stands, same_rows, same_answer, same_view, stands_after, fresh_stands}
 use Rattle.lives.specs.Events.{Event, made, Does, calls, detects, happens, Life, begins, lives}
-use Rattle.lives.specs.Law.{LawOfLives, LawOfPlainLives, told}
+use Rattle.lives.specs.Law.{LawOfLives, LawOfPlainLives}
 
 module _ {P E K M : Type 0} (R : Rules P E K) (OnBook : Held P K → M → Held P K → Type 0) where
   -- a call, as it was promised
@@ -41,8 +41,7 @@ module _ {P E K M : Type 0} (R : Rules P E K) (OnBook : Held P K → M → Held 
           )
 
     pub law_of_lives : Follows → LawOfLives R OnBook OnHistory
-    law_of_lives follows jobs mark memory k =
-        (refl, λ events views s l. let r = life_so follows (told jobs mark memory k) (new_stands R jobs mark memory k) l in (r.0, r.1))
+    law_of_lives follows t = (refl, λ events views s l. let r = life_so follows t (fresh_stands R t) l in (r.0, r.1))
 
 -- where nothing happens but calls and detections
 pub law_of_plain_lives : {P E K : Type 0} (R : Rules P E K) → LawOfPlainLives R

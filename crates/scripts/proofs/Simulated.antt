@@ -11,7 +11,8 @@ use Rattle.histories.specs.Rules.{says, after}
 use Rattle.store.specs.Calls.{Edit}
 use Rattle.histories.specs.Calls.{edits, opens, cancels, ends}
 use Rattle.scripts.specs.Commands.{Command}
-use Rattle.histories.specs.Histories.{Terms, terms, face_of, fed}
+use Rattle.histories.specs.Histories.{face_of, fed}
+use Rattle.histories.specs.Rules.{Terms, terms}
 use Rattle.scripts.specs.Lent.{Lent}
 use Rattle.scripts.specs.ScriptRuns.{RanScript}
 use Rattle.scripts.specs.Scripts.{Progress, CarriesOut, edited, opened, ended, answered, Stops, not_edited, not_opened, no_group, no_space, not_detected, Steps, carries, stops, strange, Reads, finishes, faults, steps, cancel_groups, script_answer, Worked, Refused, Scripted}

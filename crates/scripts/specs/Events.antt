@@ -2,7 +2,7 @@
 use Rattle.std.specs.Prelude.{ℕ, List, Result}
 use Rattle.rows.specs.Waiting.{Waiting}
 use Rattle.groups.specs.History.{History}
-use Rattle.histories.specs.Histories.{Terms}
+use Rattle.histories.specs.Rules.{Terms}
 use Rattle.histories.specs.Subjects.{Subject, View, of_book, of_history}
 use Rattle.lives.specs.Events.{Event, special, Does, Life}
 use Rattle.store.specs.Calls.{Edit}

@@ -2,7 +2,8 @@
 use Rattle.std.specs.Prelude.{ℕ, List, Ok, Err, Result}
 use Rattle.groups.specs.History.{History}
 use Rattle.store.specs.Calls.{Edit}
-use Rattle.histories.specs.Histories.{Shows, terms}
+use Rattle.histories.specs.Rules.{terms}
+use Rattle.histories.specs.Histories.{Shows}
 use Rattle.scripts.specs.Lent.{Lent}
 use Rattle.scripts.specs.Scripts.{Scripted}
 use Rattle.histories.specs.Subjects.{of_book, of_history}

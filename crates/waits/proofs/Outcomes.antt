@@ -5,7 +5,8 @@ use Rattle.carriers.specs.Parts.{new_carrier}
 use Rattle.carriers.specs.Meaning.{Carried}
 use Rattle.exchange.specs.Records.{blank}
 use Rattle.exchange.specs.declared.record.RunRecord.{RunRecord}
-use Rattle.histories.specs.Histories.{terms, Shows}
+use Rattle.histories.specs.Rules.{terms}
+use Rattle.histories.specs.Histories.{Shows}
 use Rattle.scripts.specs.ScriptRuns.{RanScript}
 use Rattle.scripts.specs.Lent.{lent}
 use Rattle.scripts.specs.Scripts.{Scripted}

@@ -6,7 +6,7 @@ use Rattle.exchange.specs.declared.record.RunRecord.{RunRecord}
 use Rattle.carriers.specs.Meaning.{Carried}
 use Rattle.groups.specs.History.{History, begun}
 use Rattle.store.specs.Calls.{Edit}
-use Rattle.histories.specs.Histories.{Terms}
+use Rattle.histories.specs.Rules.{Terms}
 use Rattle.scripts.specs.Scripts.{Scripted}
 use Rattle.scripts.specs.Lent.{lent}
 use Rattle.histories.specs.Subjects.{of_history}

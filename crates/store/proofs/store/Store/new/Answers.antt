@@ -1,11 +1,13 @@
-use Rattle.std.proofs.Common.{length, ap, ◌∙◌}
+use Rattle.std.proofs.Common.{length, sym, ap, ◌∙◌, subst}
 use Rattle.rows.specs.Waiting.{idle}
 use Rattle.rows.specs.Views.{waiting}
+use Rattle.groups.specs.History.{begun}
 use Rattle.groups.specs.State.{fresh}
 use Rattle.groups.specs.Views.{view}
 use Rattle.groups.proofs.Viewed.{view_fresh}
-use Rattle.store.specs.Creation.{created}
+use Rattle.store.specs.Creation.{new_terms}
 use Rattle.store.specs.Plain.{plain}
+use Rattle.histories.specs.Histories.{Shows}
 use Rattle.histories.proofs.Following.{fresh_shows}
 use Rattle.store.proofs.Lawful.{fresh_lawful}
 use Rattle.store.proofs.store.Store.new.Goals as goal
@@ -21,4 +23,5 @@ returns c =
     let mark = c.args.mark in
     let memory = length c.args.memory.now in
     let shown = ap (view n waiting) c.new.ensures ∙ view_fresh n waiting 256 c.idle.result mark memory c.created.ensures.bound ∙ ap (λ r. fresh n r mark memory) c.idle.ensures.value ∙ ap (λ k. fresh k idle mark memory) c.created.ensures.value in
-    record { value = ap book_of shown; shows = fresh_shows plain _ (created c.args.jobs) mark memory shown }
+    let made = ap book_of shown in
+    record { value = made; shows = subst (λ b. Shows plain b begun) (sym made) (fresh_shows plain (new_terms c.args.jobs mark memory)) }
