@@ -1,4 +1,4 @@
-pub mod Obeyed
+pub mod ObeysLemmas
 pub mod Parts
 pub mod Shown
 pub mod Stepped

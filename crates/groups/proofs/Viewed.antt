@@ -83,3 +83,7 @@ module _ {P Q : Type 0} (n : ℕ) (f : P → Q) where
 
   pub view_used : (s : State P) → (face (view n f s)).used ≡ (face s).used
   view_used s = total_map (old_view f) s.groups
+
+  -- there are n rows
+  pub length_view : (s : State P) → n ≤ length s.rows → length (view n f s).rows ≡ n
+  length_view s l = length-map (take n s.rows) f ∙ length-take-le n s.rows l

@@ -7,7 +7,7 @@ use Rattle.rows.specs.Waiting.{Waiting, idle, among}
 use Rattle.rows.specs.Law.{targets_max, counts_fit, rising, targets_fit, row_fits, shaped, sound}
 use Rattle.rows.specs.Changes.{wrong_counts, first_wrong, without, granted}
 use Rattle.rows.specs.Views.{waiting, plain_fits, placed, requested}
-use Rattle.rows.proofs.Counts.{fit_tells, right_counts_fit, one_less_fits}
+use Rattle.rows.proofs.Counts.{Counts, fit_tells, right_counts_fit, one_less_fits}
 use Rattle.rows.proofs.Fits.{without_is_one_shorter, fitting_rises, none_wrong_fits, fits_where_none_is_wrong, without_still_fits, among_fitting_is_below}
 
 -- The two parts of the law.
@@ -53,6 +53,9 @@ grant_fits n job u w h a =
     (cases_Bool (eqb (w.need - 1) 0))
 
 -- What the law tells.
+pub fits_counts : (n job : ℕ) (w : Waiting) → row_fits n job w ≡ true → Counts w.need (length w.targets)
+fits_counts n job w h = fit_tells w.need (length w.targets) (fits_parts n job w h).0
+
 pub fits_shaped : (n job : ℕ) (w : Waiting) → row_fits n job w ≡ true → shaped w ≡ true
 fits_shaped n job w h =
     let p = fits_parts n job w h in

@@ -30,7 +30,8 @@ use Rattle.store.specs.Memory.{Lawful}
 use Rattle.histories.specs.Told.{told_stub as told_opened}
 use Rattle.histories.proofs.Calling.{open_called, stopped_called, edit_called}
 use Rattle.store.proofs.Lawful.{written_lawful}
-use Rattle.store.proofs.Seen.{jobs_seen, wide, fits_at}
+use Rattle.store.proofs.Seen.{jobs_seen, wide}
+use Rattle.tables.proofs.Laws.{lawful_at}
 use Rattle.tables.specs.Tables.{lawful}
 use Rattle.store.specs.Plain.{plain}
 use Rattle.store.specs.Books.{PlainBook, book_of}
@@ -170,4 +171,4 @@ module _ (s : PlainBook) (n : ℕ) (jobs : n ≡ length s.state.rows) where
     pub granted_fits : lawful s.state.rows ≡ true → waiter < n → (w : Waiting) → Some w ≡ granted_by granter (at s.state.rows waiter) → row_fits (length s.state.rows) waiter w ≡ true
     granted_fits o m w e =
         let some = grant_some granter (at s.state.rows waiter) w e in
-        ap (row_fits (length s.state.rows) waiter) some.1 ∙ grant_fits (length s.state.rows) waiter granter (at s.state.rows waiter) (fits_at s.state.rows waiter o (omega (arith, jobs))) some.0
+        ap (row_fits (length s.state.rows) waiter) some.1 ∙ grant_fits (length s.state.rows) waiter granter (at s.state.rows waiter) (lawful_at s.state.rows o waiter (omega (arith, jobs))) some.0

@@ -4,3 +4,4 @@ pub mod Laws
 pub mod Waiters
 pub mod Grants
 pub mod Left
+pub mod Sizes

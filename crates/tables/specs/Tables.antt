@@ -1,8 +1,9 @@
 -- What a table tells of its rows.
-use Rattle.std.specs.Prelude.{ℕ, ◌+◌, ◌*◌, Bool, cond, List, [], ◌∷◌, length, sum_by, Option, nat_le}
-use Rattle.std.specs.List.{enumerate_from, find, list_all}
+use Rattle.std.specs.Prelude.{◌≡◌, ℕ, ◌+◌, ◌*◌, ◌≤◌, Bool, true, cond, List, [], ◌∷◌, length, sum_by, Option, nat_le}
+use Rattle.std.specs.List.{find}
 use Rattle.rows.specs.Waiting.{Waiting, among}
 use Rattle.rows.specs.Law.{targets_max, row_fits}
+use Rattle.rows.specs.Obeys.{rows_obey}
 
 -- How many jobs a table has at most.
 abbrev pub jobs_max : ℕ
@@ -12,13 +13,14 @@ jobs_max = 256
 abbrev pub waits_max : ℕ
 waits_max = jobs_max * targets_max
 
--- Every row obeys the row law among n jobs; `job` is the job of the first.
-abbrev pub rows_fit : (n job : ℕ) → List Waiting → Bool
-rows_fit n job rows = list_all (λ r. row_fits n r.0 r.1) (enumerate_from job rows)
-
 -- The rows of a table obey the row law.
 abbrev pub lawful : List Waiting → Bool
-lawful rows = rows_fit (length rows) 0 rows
+lawful rows = rows_obey (row_fits (length rows)) 0 rows
+
+-- What every table promises of its rows: there are at most 256, and they obey the row law.
+pub record IsTable (rows : List Waiting) : Type 0 where
+  pub few : length rows ≤ jobs_max
+  pub lawful : lawful rows ≡ true
 
 -- How many waits a table has: every target in every row is one.
 abbrev pub waits : List Waiting → ℕ

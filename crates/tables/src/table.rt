@@ -1,7 +1,7 @@
 // What a table tells, and what a two-way table tells besides.
 ghost use Rattle.std.specs.Prelude.{◌≡◌, ℕ, ◌≤◌, true, List, length};
 ghost use Rattle.rows.specs.Waiting.{Waiting, at, among, target_at};
-ghost use Rattle.tables.specs.Tables.{jobs_max, lawful, waiters, first_from};
+ghost use Rattle.tables.specs.Tables.{jobs_max, waits_max, lawful, waits, waiters, first_from};
 ghost use Rattle.tables.specs.Walks.{targets_left, waiters_left};
 
 use crate::walks::{TargetsOf, WaitersOf};
@@ -43,6 +43,19 @@ pub trait Table {
         (0..self.target_count(waiter))
             .filter_map(|place| self.target(waiter, place))
             .any(|target| target as usize == job)
+    }
+
+    // How many waits there are: each target of each row is one.
+    fn wait_count(&self) -> usize
+        ensures value { result ≡ waits (rows self.now) }
+        ensures bound { result ≤ waits_max }
+    {
+        // no chain with `sum`: it would ask that the sum of any first jobs fits, of which a loop's invariant speaks anyway
+        let mut waits = 0;
+        for job in 0..self.jobs() {
+            waits += self.target_count(job);
+        }
+        waits
     }
 
     // The targets of a job, one after the other.

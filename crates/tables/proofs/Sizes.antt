@@ -1,14 +1,14 @@
 -- A table that obeys the row law is small: how few targets, waiters and waits it has.
 use Rattle.std.proofs.Common.{◌≡◌, ℕ, zero, suc, ◌+◌, ◌*◌, ◌<◌, ◌≤◌, List, length, take, ap, inl, inr, add-one, arith}
-use Rattle.std.proofs.lemmas.List.{take_all}
+use Rattle.std.proofs.lemmas.List.{take_all, get_or_past}
 use Rattle.std.proofs.lemmas.List.Sums.{sum_by_more}
 use Rattle.std.proofs.lemmas.Bool.{cases_lt}
 use Rattle.rows.specs.Waiting.{Waiting, idle, at}
 use Rattle.rows.specs.Law.{targets_max}
-use Rattle.tables.specs.Tables.{jobs_max, waits_max, waiters, waits}
+use Rattle.rows.proofs.Laws.{fits_counts}
+use Rattle.tables.specs.Tables.{jobs_max, waits_max, waiters, waits, IsTable}
+use Rattle.tables.proofs.Laws.{lawful_at}
 use Rattle.tables.proofs.Waiters.{waiters_from_are_few}
-use Rattle.exchange.proofs.Sound.{lawful_is_sound}
-use Rattle.detection.specs.Asked.{Tabled}
 
 -- The waits of some first rows, with one row more, and of all rows.
 pub waits_with_one_row_more : (rows : List Waiting) (job : ℕ) → job < length rows
@@ -18,14 +18,17 @@ waits_with_one_row_more rows job l = sum_by_more (λ (row : Waiting). length row
 pub waits_of_all_rows : (rows : List Waiting) (jobs : ℕ) → length rows ≤ jobs → waits (take jobs rows) ≡ waits rows
 waits_of_all_rows rows jobs l = ap waits (take_all jobs rows l)
 
-module _ (rows : List Waiting) (tabled : Tabled rows) where
+module _ (rows : List Waiting) (table : IsTable rows) where
   -- No row has more than 16 targets.
   pub targets_are_few : (job : ℕ) → length (at rows job).targets ≤ targets_max
-  targets_are_few job = ((lawful_is_sound rows tabled.lawful).counts job).few
+  targets_are_few job = elim (cases_lt job (length rows)) [
+    | inl l ↦ (fits_counts (length rows) job (at rows job) (lawful_at rows table.lawful job l)).few
+    | inr l ↦ omega (arith, ap (λ (w : Waiting). length w.targets) (get_or_past rows job idle l))
+  ]
 
   -- No job has more than 256 waiters.
   pub waiters_are_few : (job : ℕ) → length (waiters rows job) ≤ jobs_max
-  waiters_are_few job = omega (arith, waiters_from_are_few 0 job rows, tabled.few)
+  waiters_are_few job = omega (arith, waiters_from_are_few 0 job rows, table.few)
 
   -- No table has more than 16 waits for each of 256 jobs.
   pub first_rows_have_few_waits : (jobs : ℕ) → waits (take jobs rows) ≤ targets_max * jobs
@@ -38,4 +41,4 @@ module _ (rows : List Waiting) (tabled : Tabled rows) where
       ]
 
   pub waits_are_few : waits rows ≤ waits_max
-  waits_are_few = omega (arith, waits_of_all_rows rows (length rows) (omega arith), first_rows_have_few_waits (length rows), tabled.few)
+  waits_are_few = omega (arith, waits_of_all_rows rows (length rows) (omega arith), first_rows_have_few_waits (length rows), table.few)

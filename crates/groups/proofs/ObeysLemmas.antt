@@ -1,0 +1,85 @@
+-- Every call keeps a law of rows.
+use Rattle.std.proofs.Common.{◌≡◌, ℕ, ◌<◌, ◌≤◌, Bool, true, false, cond, List, [], ◌∷◌, ◌++◌, take, Some, None, Option, IfSome, Bor, refl, ap, ◌∙◌, arith}
+use Rattle.std.specs.Slice.{IsGetResult}
+use Rattle.std.proofs.lemmas.Bool.{and_from, and_parts}
+use Rattle.std.proofs.lemmas.List.{length-set, length-replicate, length-take-le, get_or-take}
+use Rattle.rows.specs.Obeys.{rows_obey}
+use Rattle.rows.proofs.ObeysLemmas.{obeyed_at, set_obeys, replicate_obeys, take_obeys, map_obeys}
+use Rattle.groups.specs.declared.store.Ending.{Ending}
+use Rattle.groups.specs.declared.store.Ending.TheVariants.{Keep, Cancel}
+use Rattle.groups.specs.declared.store.Old.{Old}
+use Rattle.groups.specs.Limits.{row_count}
+use Rattle.groups.specs.Obeys.{olds_obey, groups_obey, Obeys}
+use Rattle.groups.specs.State.{State, old_row, noted, merged, unwound, restored, outside, fresh, written, kept, cancelled}
+use Rattle.groups.specs.Stubs.{ended_as}
+use Rattle.groups.specs.Views.{view}
+use Rattle.groups.proofs.Viewed.{length-restored}
+
+module _ {P : Type 0} (law : ℕ → P → Bool) where
+  olds-++ : (xs ys : List (Old P)) → olds_obey law xs ≡ true → olds_obey law ys ≡ true → olds_obey law (xs ++ ys) ≡ true
+  olds-++ [] ys a b = b
+  olds-++ (x ∷ xs) ys a b = and_from _ _ (and_parts (law x.job x.row) _ a).0 (olds-++ xs ys (and_parts (law x.job x.row) _ a).1 b)
+
+  unwound_obeys : (rows : List P) (os : List (Old P)) → olds_obey law os ≡ true → rows_obey law 0 rows ≡ true → rows_obey law 0 (unwound rows os) ≡ true
+  unwound_obeys rows [] a o = o
+  unwound_obeys rows (x ∷ os) a o =
+      set_obeys law (unwound rows os) x.job x.row (and_parts (law x.job x.row) _ a).0 (unwound_obeys rows os (and_parts (law x.job x.row) _ a).1 o)
+
+  noted_obeys : (gs : List (List (Old P))) (x : Old P) → law x.job x.row ≡ true → groups_obey law gs ≡ true → groups_obey law (noted gs x) ≡ true
+  noted_obeys [] x l o = refl
+  noted_obeys (g ∷ gs) x l o =
+      and_from _ _ (olds-++ g (x ∷ []) (and_parts (olds_obey law g) _ o).0 (and_from _ _ l refl)) (and_parts (olds_obey law g) _ o).1
+
+  merged_obeys : (gs : List (List (Old P))) → groups_obey law gs ≡ true → groups_obey law (merged gs) ≡ true
+  merged_obeys [] o = refl
+  merged_obeys (g ∷ []) o = refl
+  merged_obeys (g ∷ (h ∷ gs)) o =
+      let inner = and_parts (olds_obey law g) _ o in
+      let next = and_parts (olds_obey law h) _ inner.1 in
+      and_from _ _ (olds-++ h g next.0 inner.0) next.1
+
+  restored_obeys : (rows : List P) (gs : List (List (Old P))) → rows_obey law 0 rows ≡ true → groups_obey law gs ≡ true → rows_obey law 0 (restored rows gs) ≡ true
+  restored_obeys rows [] o l = o
+  restored_obeys rows (g ∷ gs) o l = unwound_obeys rows g (and_parts (olds_obey law g) _ l).0 o
+
+  outside_obeys : (gs : List (List (Old P))) → groups_obey law gs ≡ true → groups_obey law (outside gs) ≡ true
+  outside_obeys [] l = refl
+  outside_obeys (g ∷ gs) l = (and_parts (olds_obey law g) _ l).1
+
+  -- at creation
+  pub fresh_obeys : (row : P) (mark memory : ℕ) → ((k : ℕ) → law k row ≡ true) → Obeys law (fresh row_count row mark memory)
+  fresh_obeys row mark memory l = record { whole = length-replicate row_count row; rows = replicate_obeys law row_count 0 row l; olds = refl }
+
+  module _ (s : State P) (o : Obeys law s) where
+    pub written_obeys : (job : ℕ) (row : P) → job < row_count → law job row ≡ true → Obeys law (written s job row)
+    written_obeys job row l here = record {
+      whole = length-set s.rows job row ∙ o.whole;
+      rows = set_obeys law s.rows job row here o.rows;
+      olds = noted_obeys s.groups (old_row s.rows job row) (obeyed_at law s.rows job row (omega (arith, o.whole)) o.rows) o.olds;
+    }
+
+    pub kept_obeys : Obeys law (kept s)
+    kept_obeys = record { whole = o.whole; rows = o.rows; olds = merged_obeys s.groups o.olds }
+
+    pub cancelled_obeys : Obeys law (cancelled s)
+    cancelled_obeys = record { whole = length-restored s.rows s.groups ∙ o.whole; rows = restored_obeys s.rows s.groups o.rows o.olds; olds = outside_obeys s.groups o.olds }
+
+    pub ended_obeys : (e : Ending) → Obeys law (ended_as e s)
+    ended_obeys Keep = kept_obeys
+    ended_obeys Cancel = cancelled_obeys
+
+    -- whichever of two states
+    pub obeys_if : (q : Bool) (t : State P) → Obeys law t → Obeys law (cond q t s)
+    obeys_if true t k = k
+    obeys_if false t k = o
+
+    -- a row that is read off the first n
+    pub read_obeys : (n job : ℕ) (item : Option (Bor P)) → n ≤ row_count → IsGetResult (take n s.rows) job job item → IfSome item (λ p. law job p.now ≡ true)
+    read_obeys n job None w l = tt
+    read_obeys n job (Some p) w l =
+        let within : job < n = omega (arith, l.3.0, length-take-le n s.rows (omega (arith, o.whole))) in
+        ap (law job) (l.1 ∙ get_or-take n s.rows job p.now within) ∙ obeyed_at law s.rows job p.now (omega (arith, o.whole)) o.rows
+
+    -- what the first n rows mean obeys what follows from the law
+    pub view_obeys : {Q : Type 0} (n : ℕ) (f : P → Q) (law' : ℕ → Q → Bool) → ((k : ℕ) (p : P) → law k p ≡ true → law' k (f p) ≡ true) → rows_obey law' 0 (view n f s).rows ≡ true
+    view_obeys n f law' follows = map_obeys law law' f follows 0 (take n s.rows) (take_obeys law n 0 s.rows o.rows)
