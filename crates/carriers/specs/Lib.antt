@@ -1,5 +1,6 @@
 -- What the contracts speak of.
 pub mod Faults
+pub mod Messages
 pub mod Meaning
 pub mod Parts
 pub mod Picks

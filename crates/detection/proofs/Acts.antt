@@ -9,14 +9,15 @@ use Rattle.carriers.specs.Meaning.{Carried, Sent}
 use Rattle.carriers.proofs.Sends.{sent_more, length-sent}
 use Rattle.rows.specs.Waiting.{Waiting, at, is_active}
 use Rattle.rows.specs.Law.{targets_max}
-use Rattle.tables.specs.Tables.{waiters}
-use Rattle.exchange.specs.Messages.{message, to, notify_messages, grant_messages}
+use Rattle.tables.specs.Tables.{waiters, IsTable}
+use Rattle.carriers.specs.Messages.{receiver_on}
+use Rattle.exchange.specs.Messages.{message, notify_messages, grant_messages}
 use Rattle.exchange.specs.Records.{with_granted, with_freed_by}
 use Rattle.exchange.specs.Bounds.{Due}
 use Rattle.exchange.specs.Rules.{Act, and_then, let_go, notify_all, spread, freed_on, react}
 use Rattle.exchange.specs.declared.record.RunRecord.{RunRecord}
-use Rattle.detection.specs.Asked.{Tabled, RoomFor}
-use Rattle.detection.proofs.Few.{targets_are_few}
+use Rattle.detection.specs.Asked.{RoomFor}
+use Rattle.tables.proofs.Sizes.{targets_are_few}
 
 -- An active job that spreads notifies all, and then lets go.
 module _ (rows : List Waiting) (j : ℕ) (r : RunRecord) where
@@ -28,7 +29,7 @@ module _ (rows : List Waiting) (j : ℕ) (r : RunRecord) where
   active_job_puts_both active = ap (λ (a : Act). length a.puts) (active_job_lets_go active) ∙ length-append (notify_messages rows j) (grant_messages rows j)
 
 -- A GRANT finds a job that was granted less often than any row has targets.
-pub grant_finds_few_granted : {rows : List Waiting} → Tabled rows → {kind : Kind} (w : Wait) (r : RunRecord) → kind ≡ Grant → Due rows kind w r
+pub grant_finds_few_granted : {rows : List Waiting} → IsTable rows → {kind : Kind} (w : Wait) (r : RunRecord) → kind ≡ Grant → Due rows kind w r
     → r.granted < targets_max
 grant_finds_few_granted {rows} tabled w r grant due =
     omega (arith, subst (λ (k : Kind). Due rows k w r) grant due, targets_are_few rows tabled w.waiter)
@@ -36,14 +37,14 @@ grant_finds_few_granted {rows} tabled w r grant due =
 -- A GRANT comes to a job that is not free, and was granted one less than it needs.
 pub record Frees (rows : List Waiting) (kind : Kind) (w : Wait) (r : RunRecord) (job : ℕ) : Type 0 where
   pub grant : kind ≡ Grant
-  pub receiver : job ≡ to kind w
+  pub receiver : job ≡ receiver_on kind w
   pub unfree : r.free ≡ false
   pub enough : r.granted + 1 ≡ (at rows job).need
 
 -- The job lets go. It puts GRANT on each wait for it, and ACK where there is none.
 module _ {rows : List Waiting} {kind : Kind} {w : Wait} {r : RunRecord} {job : ℕ} (frees : Frees rows kind w r job) where
   receiver_is_the_waiter : job ≡ w.waiter
-  receiver_is_the_waiter = frees.receiver ∙ ap (λ (k : Kind). to k w) frees.grant
+  receiver_is_the_waiter = frees.receiver ∙ ap (λ (k : Kind). receiver_on k w) frees.grant
 
   freed_job_lets_go : react rows kind w r ≡ freed_on rows w r
   freed_job_lets_go =

@@ -5,20 +5,20 @@ use Rattle.std.proofs.lemmas.Bool.{ltb-false}
 use Rattle.carriers.specs.Meaning.{Carried, Took}
 use Rattle.carriers.specs.declared.message.Message.{Message}
 use Rattle.rows.specs.Waiting.{Waiting}
+use Rattle.tables.specs.Tables.{IsTable}
 use Rattle.exchange.specs.Records.{blank}
 use Rattle.exchange.specs.Runs.{Exchange}
 use Rattle.exchange.specs.declared.record.RunRecord.{RunRecord}
 use Rattle.exchange.proofs.Bounded.{runs_are_bounded}
 use Rattle.exchange.proofs.Told.{ended_runs_tell}
-use Rattle.detection.specs.Asked.{Tabled}
 use Rattle.detection.specs.Detected.{verdict_of, Finished}
 use Rattle.detection.specs.declared.verdict.Detection.{Detection}
-use Rattle.detection.proofs.Few.{waits_are_few}
+use Rattle.tables.proofs.Sizes.{waits_are_few}
 use Rattle.detection.proofs.Going.{state, Going, growth, within_bounds, growth_is_the_deliveries}
 use Rattle.detection.proofs.Verdicts.{free_verdict_tells, stuck_verdict_tells}
 
 -- The end of a run: no message came.
-module _ {rows : List Waiting} {initiator : ℕ} (tabled : Tabled rows) (job : initiator < length rows)
+module _ {rows : List Waiting} {initiator : ℕ} (tabled : IsTable rows) (job : initiator < length rows)
     {room before : ℕ} {records : List RunRecord} {now : Carried} (going : Going rows initiator room before records now)
     {left : Carried} (took : Took now left None) where
   none_waits : now.waiting ≡ []

@@ -7,17 +7,17 @@ use Rattle.std.proofs.ByRecursion.{all_shuffled}
 use Rattle.carriers.specs.Meaning.{Carried, Took, Sent}
 use Rattle.carriers.specs.declared.message.Message.{Message}
 use Rattle.rows.specs.Waiting.{Waiting}
-use Rattle.tables.specs.Tables.{waits}
+use Rattle.tables.specs.Tables.{waits, IsTable}
 use Rattle.exchange.specs.Bounds.{Awaited, Bounded}
-use Rattle.exchange.specs.Messages.{receiver}
+use Rattle.carriers.specs.Messages.{receiver}
 use Rattle.exchange.specs.Records.{blank}
 use Rattle.exchange.specs.Rules.{spread}
 use Rattle.exchange.specs.Runs.{RunState, reaction, stays, Exchange}
 use Rattle.exchange.specs.declared.record.RunRecord.{RunRecord}
 use Rattle.exchange.proofs.Bounded.{runs_are_bounded}
-use Rattle.detection.specs.Asked.{Tabled, RoomFor}
+use Rattle.detection.specs.Asked.{RoomFor}
 use Rattle.exchange.proofs.Ends.{exchange_goes_on}
-use Rattle.detection.proofs.Few.{waits_are_few}
+use Rattle.tables.proofs.Sizes.{waits_are_few}
 
 abbrev pub state : List RunRecord → List Message → RunState
 state records waiting = record { records = records; waiting = waiting }
@@ -36,7 +36,7 @@ growth before now = (now + (2 ^ 32 - before)) % 2 ^ 32
 growth_is_what_was_added : (before now added : ℕ) → before < 2 ^ 32 → added < 2 ^ 32 → now ≡ (before + added) % 2 ^ 32 → growth before now ≡ added
 growth_is_what_was_added before now added b a e = omega arith
 
-module _ {rows : List Waiting} {initiator : ℕ} (tabled : Tabled rows) (job : initiator < length rows) where
+module _ {rows : List Waiting} {initiator : ℕ} (tabled : IsTable rows) (job : initiator < length rows) where
   -- The start: every record is blank, and nothing waits.
   module _ {records : List RunRecord} (blanks : records ≡ replicate (length rows) blank) (first : Carried) (empty : length first.waiting ≡ 0) where
     own_record_is_blank : get_or records initiator blank ≡ blank

@@ -1,5 +1,4 @@
 -- The lemmas, by topic.
-mod Few
 mod Walked
 mod Acts
 mod Going

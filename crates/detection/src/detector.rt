@@ -1,6 +1,6 @@
 // The detection: a run of the exchange from one job, over any table and any carrier.
 ghost use Rattle.std.specs.Prelude.{◌≡◌, ◌*◌, ◌<◌, ◌≤◌, length, IfErr};
-ghost use Rattle.tables.specs.Tables.{waits_max, waits as waits_of};
+ghost use Rattle.tables.specs.Tables.{waits as waits_of};
 ghost use Rattle.exchange.specs.Bounds.{capacity_per_wait};
 ghost use Rattle.detection.specs.Detects.{Detects};
 ghost use Rattle.detection.specs.Detected.{Finished, verdict_of};
@@ -11,7 +11,7 @@ use crate::reactions::{deliver, spread};
 use crate::verdict::{Detection, Verdict};
 use carriers::Carrier;
 use exchange::RunRecord;
-use tables::{Table, TwoWayTable};
+use tables::TwoWayTable;
 
 // How many messages a carrier must have room for, for each wait.
 pub const CAPACITY_PER_WAIT: usize = 2;
@@ -37,24 +37,11 @@ pub fn detect<T: TwoWayTable, C: Carrier>(
     if carrier.waiting() > 0 {
         return Err(DetectionFault::MessagesWait);
     }
-    if carrier.capacity() < CAPACITY_PER_WAIT * waits(table) {
+    if carrier.capacity() < CAPACITY_PER_WAIT * table.wait_count() {
         return Err(DetectionFault::CarrierTooSmall);
     }
     let table = LawfulTable { table };
     Ok(run(&table, initiator as u8, &mut records[..jobs], carrier))
-}
-
-// How many waits a table has.
-fn waits<T: Table>(table: &T) -> usize
-    ensures value { result ≡ waits_of (T.Table.rows table.now) }
-    ensures bound { result ≤ waits_max }
-{
-    // no chain with `sum`: it would ask that the sum of any first jobs fits, of which a loop's invariant speaks anyway
-    let mut waits = 0;
-    for job in 0..table.jobs() {
-        waits += table.target_count(job);
-    }
-    waits
 }
 
 // The run: the initiator spreads, and messages are delivered until none waits.

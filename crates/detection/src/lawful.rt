@@ -1,5 +1,5 @@
 // A table whose promises have been heard.
-ghost use Rattle.detection.specs.Asked.{Tabled};
+ghost use Rattle.tables.specs.Tables.{IsTable};
 
 use tables::Table;
 
@@ -8,5 +8,5 @@ use tables::Table;
 #[derive(Drop)]
 pub struct LawfulTable<'a, T: Table> {
     pub table: &'a T,
-    ghost tabled: { Tabled (T.Table.rows table.now) },
+    ghost tabled: { IsTable (T.Table.rows table.now) },
 }

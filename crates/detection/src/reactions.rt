@@ -1,7 +1,7 @@
 // What a job does when it lets go, when it spreads, and when a message reaches it.
 ghost use Rattle.std.specs.Prelude.{◌≡◌, ◌<◌, length, slice_set};
 ghost use Rattle.carriers.specs.Meaning.{Sent};
-ghost use Rattle.exchange.specs.Messages.{receiver as goes_to};
+ghost use Rattle.carriers.specs.Messages.{receiver};
 ghost use Rattle.exchange.specs.Rules.{let_go, close_notice, spread as spreading, react as reacting};
 ghost use Rattle.exchange.specs.Runs.{reaction};
 ghost use Rattle.exchange.specs.Bounds.{Due, Awaited};
@@ -54,16 +54,6 @@ fn close_notice<C: Carrier>(own: &RunRecord, carrier: &mut C)
     send_on(carrier, Kind::Done, own.notified_by);
 }
 
-// Who receives a message.
-fn receiver(message: Message) -> u8
-    ensures { result ≡ goes_to message }
-{
-    match message.kind {
-        Kind::Notify | Kind::Ack => message.wait.target,
-        Kind::Done | Kind::Grant => message.wait.waiter,
-    }
-}
-
 // What the receiver of a message does, by its own record and the kind.
 fn react<T: TwoWayTable, C: Carrier>(
     table: &LawfulTable<T>,
@@ -77,7 +67,7 @@ fn react<T: TwoWayTable, C: Carrier>(
     ensures sent { Sent (C.Carrier.carried carrier.old) (C.Carrier.carried carrier.new) (reacting (T.Table.rows table.now.table.now) message.kind message.wait own.old).puts }
 {
     let wait = message.wait;
-    let job = receiver(message);
+    let job = message.receiver();
     match (message.kind, own.notified, own.free) {
         (Kind::Notify, true, _) => send(carrier, Kind::Done, wait),
         (Kind::Notify, false, _) => {
@@ -126,9 +116,9 @@ pub fn deliver<T: TwoWayTable, C: Carrier>(
     requires records { length records.old ≡ length (T.Table.rows table.now.table.now) }
     requires awaited { Awaited (T.Table.rows table.now.table.now) records.old message }
     requires room { RoomFor (C.Carrier.carried carrier.old) (reaction (T.Table.rows table.now.table.now) records.old message).puts }
-    ensures records { records.new ≡ slice_set records.old (goes_to message) (reaction (T.Table.rows table.now.table.now) records.old message).becomes }
+    ensures records { records.new ≡ slice_set records.old (receiver message) (reaction (T.Table.rows table.now.table.now) records.old message).becomes }
     ensures sent { Sent (C.Carrier.carried carrier.old) (C.Carrier.carried carrier.new) (reaction (T.Table.rows table.now.table.now) records.old message).puts }
 {
-    let job = receiver(message) as usize;
+    let job = message.receiver() as usize;
     react(table, message, &mut records[job], carrier);
 }

@@ -16,7 +16,7 @@ use Rattle.tables.specs.Closed.{count}
 use Rattle.tables.specs.Tables.{waits, waiters}
 use Rattle.tables.proofs.Grants.{row_after_a_write}
 use Rattle.tables.proofs.Laws.{who_waits_is_a_job}
-use Rattle.exchange.specs.Messages.{to, receiver}
+use Rattle.carriers.specs.Messages.{receiver_on, receiver}
 use Rattle.exchange.specs.Records.{blank}
 use Rattle.exchange.specs.Rules.{Act, spread}
 use Rattle.exchange.specs.Runs.{RunState, reaction, Begins, Delivers}
@@ -109,7 +109,7 @@ module _ (rows : List Waiting) (ok : Sound rows) where
 
   -- What a message on its way finds.
   pub finds_due : (initiator k : ℕ) (s : RunState) → Kept rows initiator k s → (c : Kind) (w : Wait) → Entries.Waits rows w → ((f : Kind → Wait → ℕ) → f c w ≤ weigh f s.waiting)
-      → Due rows c w (get_or s.records (to c w) blank)
+      → Due rows c w (get_or s.records (receiver_on c w) blank)
   finds_due initiator k s v Notify w o h = tt
   finds_due initiator k s v Done w o h =
       let d = v.dones w.waiter in
@@ -223,7 +223,7 @@ module _ (rows : List Waiting) (ok : Sound rows) where
       notified_is_held : act.becomes.notified ≡ true → R j ≡ true
       notified_is_held n = elim (Reactions.notified_by_notify rows ok m.kind m.wait old n) [
         | inl o ↦ (v.held R S spreading freeing j is_a_job).0 o
-        | inr e ↦ subst (λ (c : Kind). R (to c m.wait) ≡ true) (sym e)
+        | inr e ↦ subst (λ (c : Kind). R (receiver_on c m.wait) ≡ true) (sym e)
             (spreading.goes_on m.wait.waiter m.wait.target
             ((v.held R S spreading freeing m.wait.waiter (who_waits_is_a_job rows m.wait.waiter m.wait.target on_wait)).0 (notifier_is_notified e)) on_wait)
       ]

@@ -8,7 +8,7 @@ use Rattle.carriers.specs.declared.message.Message.{Message}
 use Rattle.carriers.specs.declared.message.Wait.{Wait}
 use Rattle.rows.specs.Waiting.{Waiting}
 use Rattle.tables.proofs.Grants.{row_after_a_write}
-use Rattle.exchange.specs.Messages.{receiver}
+use Rattle.carriers.specs.Messages.{receiver}
 use Rattle.exchange.specs.Records.{blank}
 use Rattle.exchange.specs.Rules.{spread}
 use Rattle.exchange.specs.Runs.{RunState, reaction, Begins, Delivers, Run, stays, delivers}

@@ -12,7 +12,8 @@ use Rattle.rows.specs.Law.{rising}
 use Rattle.tables.specs.Tables.{waiters}
 use Rattle.tables.proofs.Laws.{who_waits_is_a_job}
 use Rattle.tables.proofs.Waiters.{among_rising_is_not_below, waiters_are_who_waits, waiters_rise}
-use Rattle.exchange.specs.Messages.{on, message, to, notify_messages, grant_messages, put_on}
+use Rattle.carriers.specs.Messages.{receiver_on}
+use Rattle.exchange.specs.Messages.{on, message, notify_messages, grant_messages, put_on}
 use Rattle.exchange.specs.Records.{blank, with_granted, with_notified_by, freed}
 use Rattle.exchange.specs.Rules.{Act, and_then, let_go, notify_all, spread, react, freed_on}
 use Rattle.exchange.specs.Bounds.{Due}
@@ -110,9 +111,9 @@ module _ (rows : List Waiting) (ok : Sound rows) where
       let g = weigh_spread (Entries.notice_of x) j r in
       elim d [ inl p ↦ grind (arith, nat_tests) | inr z ↦ grind (arith, nat_tests) ]
 
-  pub dones_balance : (x : ℕ) (k : Kind) (w : Wait) (r : RunRecord) → Entries.Fair rows (to k w) r → Entries.Waits rows w → Due rows k w r
-      → Entries.dones_of x (to k w) (react rows k w r).becomes + (Entries.notice_of x k w + Entries.owes_done rows x (to k w) r)
-      ≡ Entries.dones_of x (to k w) r + (weigh (Entries.notice_of x) (react rows k w r).puts + Entries.owes_done rows x (to k w) (react rows k w r).becomes)
+  pub dones_balance : (x : ℕ) (k : Kind) (w : Wait) (r : RunRecord) → Entries.Fair rows (receiver_on k w) r → Entries.Waits rows w → Due rows k w r
+      → Entries.dones_of x (receiver_on k w) (react rows k w r).becomes + (Entries.notice_of x k w + Entries.owes_done rows x (receiver_on k w) r)
+      ≡ Entries.dones_of x (receiver_on k w) r + (weigh (Entries.notice_of x) (react rows k w r).puts + Entries.owes_done rows x (receiver_on k w) (react rows k w r).becomes)
   dones_balance x Notify w r l o d =
       at_notify (λ a. Entries.dones_of x w.target a.becomes + (Entries.same w.waiter x + Entries.owes_done rows x w.target r)
       ≡ Entries.dones_of x w.target r + (weigh (Entries.notice_of x) a.puts + Entries.owes_done rows x w.target a.becomes)) w r
@@ -150,9 +151,9 @@ module _ (rows : List Waiting) (ok : Sound rows) where
       → Entries.acks_of x j a.becomes + Entries.owes_ack x j r ≡ Entries.acks_of x j r + (weigh (Entries.grant_of x) a.puts + Entries.owes_ack x j a.becomes)) j r
       (λ z w. let b = u.unfree z in grind (arith, nat_tests)) (λ z w. grind (arith, nat_tests)) g
 
-  pub acks_balance : (x : ℕ) (k : Kind) (w : Wait) (r : RunRecord) → Entries.Fair rows (to k w) r → Entries.Waits rows w → Due rows k w r
-      → Entries.acks_of x (to k w) (react rows k w r).becomes + (Entries.grant_of x k w + Entries.owes_ack x (to k w) r)
-      ≡ Entries.acks_of x (to k w) r + (weigh (Entries.grant_of x) (react rows k w r).puts + Entries.owes_ack x (to k w) (react rows k w r).becomes)
+  pub acks_balance : (x : ℕ) (k : Kind) (w : Wait) (r : RunRecord) → Entries.Fair rows (receiver_on k w) r → Entries.Waits rows w → Due rows k w r
+      → Entries.acks_of x (receiver_on k w) (react rows k w r).becomes + (Entries.grant_of x k w + Entries.owes_ack x (receiver_on k w) r)
+      ≡ Entries.acks_of x (receiver_on k w) r + (weigh (Entries.grant_of x) (react rows k w r).puts + Entries.owes_ack x (receiver_on k w) (react rows k w r).becomes)
   acks_balance x Notify w r l o d =
       at_notify (λ a. Entries.acks_of x w.target a.becomes + (0 + Entries.owes_ack x w.target r)
       ≡ Entries.acks_of x w.target r + (weigh (Entries.grant_of x) a.puts + Entries.owes_ack x w.target a.becomes)) w r
@@ -189,9 +190,9 @@ module _ (rows : List Waiting) (ok : Sound rows) where
       → Entries.free_for rows x j a.becomes + Entries.granted_of x j r ≡ Entries.free_for rows x j r + (weigh (Entries.grant_to x) a.puts + Entries.granted_of x j a.becomes)) j r
       (λ z w. let b = u.unfree z in grind (arith, nat_tests)) (λ z w. grind (arith, nat_tests)) (weigh_spread (Entries.grant_to x) j r)
 
-  pub grants_balance : (x : ℕ) (k : Kind) (w : Wait) (r : RunRecord) → Entries.Fair rows (to k w) r → Entries.Waits rows w
-      → Entries.free_for rows x (to k w) (react rows k w r).becomes + (Entries.grant_to x k w + Entries.granted_of x (to k w) r)
-      ≡ Entries.free_for rows x (to k w) r + (weigh (Entries.grant_to x) (react rows k w r).puts + Entries.granted_of x (to k w) (react rows k w r).becomes)
+  pub grants_balance : (x : ℕ) (k : Kind) (w : Wait) (r : RunRecord) → Entries.Fair rows (receiver_on k w) r → Entries.Waits rows w
+      → Entries.free_for rows x (receiver_on k w) (react rows k w r).becomes + (Entries.grant_to x k w + Entries.granted_of x (receiver_on k w) r)
+      ≡ Entries.free_for rows x (receiver_on k w) r + (weigh (Entries.grant_to x) (react rows k w r).puts + Entries.granted_of x (receiver_on k w) (react rows k w r).becomes)
   grants_balance x Notify w r l o =
       at_notify (λ a. Entries.free_for rows x w.target a.becomes + (0 + Entries.granted_of x w.target r)
       ≡ Entries.free_for rows x w.target r + (weigh (Entries.grant_to x) a.puts + Entries.granted_of x w.target a.becomes)) w r
@@ -224,9 +225,9 @@ module _ (rows : List Waiting) (ok : Sound rows) where
         | inr e ↦ grind (arith, nat_tests)
       ]
 
-  pub notifies_balance : (x y : ℕ) → among y (targets rows x) ≡ true → (k : Kind) (w : Wait) (r : RunRecord) → Entries.notified_of y (to k w) (react rows k w r).becomes ≡ 0
-      → (Entries.notified_of x (to k w) (react rows k w r).becomes + Entries.notify_on x y k w ≤ Entries.notified_of x (to k w) r + weigh (Entries.notify_on x y) (react rows k w r).puts)
-      × (Entries.notified_of y (to k w) r ≡ 0)
+  pub notifies_balance : (x y : ℕ) → among y (targets rows x) ≡ true → (k : Kind) (w : Wait) (r : RunRecord) → Entries.notified_of y (receiver_on k w) (react rows k w r).becomes ≡ 0
+      → (Entries.notified_of x (receiver_on k w) (react rows k w r).becomes + Entries.notify_on x y k w ≤ Entries.notified_of x (receiver_on k w) r + weigh (Entries.notify_on x y) (react rows k w r).puts)
+      × (Entries.notified_of y (receiver_on k w) r ≡ 0)
   notifies_balance x y b Notify w r =
       at_notify (λ a. Entries.notified_of y w.target a.becomes ≡ 0
       → (Entries.notified_of x w.target a.becomes + Entries.notify_on x y Notify w ≤ Entries.notified_of x w.target r + weigh (Entries.notify_on x y) a.puts)
@@ -253,8 +254,8 @@ module _ (rows : List Waiting) (ok : Sound rows) where
       → weigh Entries.first a.puts + Entries.ahead rows j a.becomes ≡ Entries.ahead rows j r) j r
       (λ z w. let b = u.unfree z in grind (arith, nat_tests)) (λ z w. grind (arith, nat_tests)) (weigh_spread Entries.first j r)
 
-  pub ahead_balance : (k : Kind) (w : Wait) (r : RunRecord) → Entries.Fair rows (to k w) r
-      → weigh Entries.first (react rows k w r).puts + Entries.ahead rows (to k w) (react rows k w r).becomes ≡ Entries.ahead rows (to k w) r
+  pub ahead_balance : (k : Kind) (w : Wait) (r : RunRecord) → Entries.Fair rows (receiver_on k w) r
+      → weigh Entries.first (react rows k w r).puts + Entries.ahead rows (receiver_on k w) (react rows k w r).becomes ≡ Entries.ahead rows (receiver_on k w) r
   ahead_balance Notify w r l =
       at_notify (λ a. weigh Entries.first a.puts + Entries.ahead rows w.target a.becomes ≡ Entries.ahead rows w.target r) w r
       (λ e. omega arith)
@@ -289,9 +290,9 @@ module _ (rows : List Waiting) (ok : Sound rows) where
       → weigh Entries.answer a.puts + Entries.owed rows w.target a.becomes ≡ 1 + Entries.owed rows w.target r) w.target (with_notified_by w r)
       (λ z p y. let b = u.unfree z in grind (arith, nat_tests)) (λ z p y. grind (arith, nat_tests)) (spread_is_due w r a) (weigh_spread Entries.answer w.target (with_notified_by w r))
 
-  pub owed_balance : (k : Kind) (w : Wait) (r : RunRecord) → Entries.Fair rows (to k w) r → Entries.Waits rows w → Due rows k w r
-      → weigh Entries.answer (react rows k w r).puts + (Entries.owed rows (to k w) (react rows k w r).becomes + Entries.answer k w)
-      ≡ Entries.first k w + (Entries.answer k w + Entries.owed rows (to k w) r)
+  pub owed_balance : (k : Kind) (w : Wait) (r : RunRecord) → Entries.Fair rows (receiver_on k w) r → Entries.Waits rows w → Due rows k w r
+      → weigh Entries.answer (react rows k w r).puts + (Entries.owed rows (receiver_on k w) (react rows k w r).becomes + Entries.answer k w)
+      ≡ Entries.first k w + (Entries.answer k w + Entries.owed rows (receiver_on k w) r)
   owed_balance Notify w r l o d =
       at_notify (λ a. weigh Entries.answer a.puts + (Entries.owed rows w.target a.becomes + 0) ≡ 1 + (0 + Entries.owed rows w.target r)) w r
       (λ e. omega arith) (λ e. omega (arith, spread_owes_one w r o e l))
@@ -327,7 +328,7 @@ module _ (rows : List Waiting) (ok : Sound rows) where
       (λ z. record { unnotified = λ e. absurd (true≢false e); unfree = λ e. absurd (true≢false e); active = λ e. refl; lacking = λ h e. absurd (true≢false e); notified_by = by; freed_by = freed })
       (λ z. record { unnotified = λ e. absurd (true≢false e); unfree = unfree; active = λ e. absurd (omega arith); lacking = lacking; notified_by = by; freed_by = freed })
 
-  pub stays_fair : (k : Kind) (w : Wait) (r : RunRecord) → Entries.Fair rows (to k w) r → Entries.Waits rows w → Entries.Fair rows (to k w) (react rows k w r).becomes
+  pub stays_fair : (k : Kind) (w : Wait) (r : RunRecord) → Entries.Fair rows (receiver_on k w) r → Entries.Waits rows w → Entries.Fair rows (receiver_on k w) (react rows k w r).becomes
   stays_fair Notify w r l o =
       at_notify (λ a. Entries.Fair rows w.target a.becomes) w r
       (λ e. l) (λ e. spread_is_fair w.target (with_notified_by w r) l.unfree l.lacking o l.freed_by)
@@ -361,7 +362,7 @@ module _ (rows : List Waiting) (ok : Sound rows) where
       at_spread (λ a. AllByRecursion (Entries.OnWait rows) a.puts) j r
       (λ z. All-append (Entries.OnWait rows) (notify_messages rows j) (grant_messages rows j) (notifies_on_waits j) (grants_on_waits j)) (λ z. notifies_on_waits j)
 
-  pub puts_on_waits : (k : Kind) (w : Wait) (r : RunRecord) → Entries.Fair rows (to k w) r → Entries.Waits rows w → AllByRecursion (Entries.OnWait rows) (react rows k w r).puts
+  pub puts_on_waits : (k : Kind) (w : Wait) (r : RunRecord) → Entries.Fair rows (receiver_on k w) r → Entries.Waits rows w → AllByRecursion (Entries.OnWait rows) (react rows k w r).puts
   puts_on_waits Notify w r l o = at_notify (λ a. AllByRecursion (Entries.OnWait rows) a.puts) w r (λ e. (o, tt)) (λ e. spread_on_waits w.target (with_notified_by w r))
   puts_on_waits Done w r l o =
       cond_both (eqb (r.dones_due - 1) 0) (put_on Done r.notified_by) [] (AllByRecursion (Entries.OnWait rows)) (λ e. done_on_wait r.notified_by l.notified_by) (λ e. tt)
@@ -377,7 +378,7 @@ module _ (rows : List Waiting) (ok : Sound rows) where
       (λ e. tt)
 
   -- A job that is free now was free, or has been granted what it needs.
-  pub freed_by_grants : (k : Kind) (w : Wait) (r : RunRecord) → (react rows k w r).becomes.free ≡ true → (r.free ≡ true) ⊎ (need rows (to k w) ≤ r.granted + Entries.grant_to (to k w) k w)
+  pub freed_by_grants : (k : Kind) (w : Wait) (r : RunRecord) → (react rows k w r).becomes.free ≡ true → (r.free ≡ true) ⊎ (need rows (receiver_on k w) ≤ r.granted + Entries.grant_to (receiver_on k w) k w)
   freed_by_grants Notify w r =
       at_notify (λ a. a.becomes.free ≡ true → (r.free ≡ true) ⊎ (need rows w.target ≤ r.granted + 0)) w r
       (λ e h. inl h)
@@ -434,7 +435,7 @@ module _ (rows : List Waiting) (ok : Sound rows) where
   stays_free Grant w r f = at_grant (λ a. a.becomes.free ≡ true) w r (λ e g. refl) (λ e. f)
   stays_free Ack w r f = f
 
-  pub receiver_is_a_job : (k : Kind) (w : Wait) → Entries.Waits rows w → to k w < length rows
+  pub receiver_is_a_job : (k : Kind) (w : Wait) → Entries.Waits rows w → receiver_on k w < length rows
   receiver_is_a_job Notify w o = ok.below w.waiter w.target o
   receiver_is_a_job Done w o = who_waits_is_a_job rows w.waiter w.target o
   receiver_is_a_job Grant w o = who_waits_is_a_job rows w.waiter w.target o

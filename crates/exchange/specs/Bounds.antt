@@ -7,7 +7,7 @@ use Rattle.carriers.specs.declared.message.Message.{Message}
 use Rattle.carriers.specs.declared.message.Wait.{Wait}
 use Rattle.rows.specs.Waiting.{Waiting, at}
 use Rattle.tables.specs.Tables.{lawful, waits}
-use Rattle.exchange.specs.Messages.{receiver}
+use Rattle.carriers.specs.Messages.{receiver}
 use Rattle.exchange.specs.Records.{blank}
 use Rattle.exchange.specs.Runs.{RunState, Exchange}
 use Rattle.exchange.specs.declared.record.RunRecord.{RunRecord}

@@ -1,7 +1,7 @@
--- Messages of the exchange: who receives one, and those that a job puts on its waits.
+-- Messages that a job puts on its waits.
 use Rattle.std.specs.Prelude.{ℕ, List, [], ◌∷◌, map, Some, None, Option}
 use Rattle.carriers.specs.declared.message.Kind.{Kind}
-use Rattle.carriers.specs.declared.message.Kind.TheVariants.{Notify, Done, Grant, Ack}
+use Rattle.carriers.specs.declared.message.Kind.TheVariants.{Notify, Grant}
 use Rattle.carriers.specs.declared.message.Message.{Message}
 use Rattle.carriers.specs.declared.message.Wait.{Wait}
 use Rattle.rows.specs.Waiting.{Waiting, at}
@@ -14,17 +14,6 @@ on v u = record { waiter = v; target = u }
 -- A message says a kind of thing about a wait.
 abbrev pub message : Kind → Wait → Message
 message kind wait = record { kind = kind; wait = wait }
-
--- On the wait (v, u), NOTIFY and ACK go from v to u; DONE and GRANT go from u to v.
-abbrev pub to : Kind → Wait → ℕ
-to Notify w = w.target
-to Done w = w.waiter
-to Grant w = w.waiter
-to Ack w = w.target
-
--- Who receives a message: the target gets NOTIFY and ACK, the waiter DONE and GRANT.
-abbrev pub receiver : Message → ℕ
-receiver m = to m.kind m.wait
 
 -- NOTIFY on each wait (j, any).
 abbrev pub notify_messages : List Waiting → ℕ → List Message
