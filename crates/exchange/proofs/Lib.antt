@@ -10,3 +10,5 @@ pub mod Told
 pub mod Ranks
 pub mod Exact
 pub mod Ends
+pub mod Rounds
+pub mod RoundsLemmas

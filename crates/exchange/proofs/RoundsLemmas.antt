@@ -16,7 +16,7 @@ use Rattle.exchange.proofs.Kept.{Kept}
 use Rattle.exchange.proofs.Sound.{Sound, need, targets, count_grows}
 use Rattle.exchange.proofs.Sums.{total, total_same}
 use Rattle.exchange.proofs.Told.{target_is_notified, blocked_is_free}
-use Rattle.small_books.proofs.Rounds.{some_below, each_below, all_in, reached, freed, spread_out, freed_out}
+use Rattle.exchange.proofs.Rounds.{some_below, each_below, all_in, reached, freed, spread_out, freed_out}
 
 some_below_tells : (n : ℕ) (p : ℕ → Bool) → some_below n p ≡ true → (w : ℕ) × (w < n) × (p w ≡ true)
 some_below_tells zero p h = absurd (true≢false (sym h))
@@ -127,8 +127,8 @@ module _ (rows : List Waiting) (ok : Sound rows) (initiator : ℕ) (l : initiato
       same_free : (j : ℕ) → j < length rows → free j ≡ S j
       same_free j b = both_ways (free j) (S j) (v.held R S spreading freeing j b).1 (freed_is_free k j)
 
-      pub settled_tells : (length order ≡ twice_both rows R S) × (free initiator ≡ S initiator)
-      settled_tells = (
+      pub rounds_tell : (length order ≡ twice_both rows R S) × (free initiator ≡ S initiator)
+      rounds_tell = (
         exact_count rows ok initiator l order s x none
             ∙ ap (λ (n : ℕ). 2 * n + 2 * total (length rows) (λ j. cond (free j) (length (waiters rows j)) 0))
             (total_same (length rows) (λ j. cond (notified j) (length (targets rows j)) 0) (λ j. cond (R j) (length (targets rows j)) 0) (λ j b. ap (λ (c : Bool). cond c (length (targets rows j)) 0) (same_notified j b)))

@@ -1,4 +1,2 @@
 -- The lemmas, by topic.
-mod Rounds
-mod Settled
 mod Told

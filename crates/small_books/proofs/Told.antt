@@ -8,8 +8,8 @@ use Rattle.exchange.proofs.Exact.{twice_both}
 use Rattle.exchange.proofs.Sound.{lawful_is_sound}
 use Rattle.small_books.specs.Books.{RunLine, table}
 use Rattle.small_books.specs.Facts.{Tells, Holds, SmallBooksHold}
-use Rattle.small_books.proofs.Rounds.{reached, freed, spread_out, freed_out}
-use Rattle.small_books.proofs.Settled.{settled_tells}
+use Rattle.exchange.proofs.Rounds.{reached, freed, spread_out, freed_out}
+use Rattle.exchange.proofs.RoundsLemmas.{rounds_tell}
 
 -- The jobs that a run notifies, and those that it frees: as many rounds as there are jobs suffice.
 abbrev R : RunLine → ℕ → Bool
@@ -48,7 +48,7 @@ computed_is_told a h =
     let l = ltb-true a.initiator (length a.rows) ground.1 in
     record {
       every = λ order s x none.
-          let t = settled_tells a.rows (lawful_is_sound a.rows ground.0) a.initiator l (length a.rows) sets.0 outs.0 outs.1 order s x none in
+          let t = rounds_tell a.rows (lawful_is_sound a.rows ground.0) a.initiator l (length a.rows) sets.0 outs.0 outs.1 order s x none in
           (t.0 ∙ eqb-true (twice_both a.rows (R a) (S a)) a.deliveries ends.0, t.1 ∙ same_test (S a a.initiator) a.free ends.1);
       some = let e = a_run_ends a.rows ground.0 a.initiator l in (e.order, e.last, e.run, e.over);
     }
