@@ -2,3 +2,4 @@
 mod Rows
 mod Scans
 mod Taken
+mod WritingLemmas

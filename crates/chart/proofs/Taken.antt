@@ -3,9 +3,10 @@ use Rattle.std.proofs.Common.{◌≡◌, ℕ, ◌≤◌, true, false, List, [], 
 use Rattle.std.proofs.lemmas.Bool.{cases_Bool}
 use Rattle.std.proofs.lemmas.Bool.Decides.{nat_tests}
 use Rattle.std.specs.Simd.{first_chunks}
+use Rattle.rows.specs.Obeys.{rows_obey}
 use Rattle.tables.specs.Tables.{jobs_max}
 use Rattle.chart.specs.Layout.{row_bytes, chart_max, row_of, job_count, bytes_of_jobs}
-use Rattle.chart.specs.Check.{wrong_length, first_wrong_row, rows_right, counted_or_wrong, checked, rows_told, chart_rows}
+use Rattle.chart.specs.Check.{wrong_length, row_right, first_wrong_row, counted_or_wrong, checked, rows_told, chart_rows}
 use Rattle.chart.specs.Views.{rows_counted}
 use Rattle.chart.specs.declared.fault.ChartFault.{ChartFault}
 use Rattle.std.specs.Result.{result_unwrap_or}
@@ -24,7 +25,7 @@ told_ok_has_no_wrong_row m n (Some job) h = let z : ◌≡◌ {A = ℕ} 0 1 = cc
 -- The rows of bytes that are checked, or none, are a chart's.
 pub record Charted (bytes : List ℕ) (rows : List (List ℕ)) : Type 0 where
   pub few : length rows ≤ jobs_max
-  pub right : rows_right (length rows) 0 rows ≡ true
+  pub right : rows_obey (row_right (length rows)) 0 rows ≡ true
   pub told : map row_of rows ≡ chart_rows bytes
 
 taken_rows_are_a_chart : (bytes : List ℕ) (rows : List (List ℕ)) → rows ≡ first_chunks row_bytes (length rows) bytes → Ok (length rows) ≡ checked bytes → Charted bytes rows

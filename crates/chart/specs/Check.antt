@@ -22,10 +22,6 @@ row_right n job bytes =
     nat_le (count_byte bytes) targets_max
     && (row_fits n job (row_of bytes) && all_zero (drop (count_byte bytes) (target_bytes bytes)))
 
--- The rows of the jobs from `job` on, of n jobs, are right.
-abbrev pub rows_right : (n job : ℕ) → List (List ℕ) → Bool
-rows_right n job rows = list_all (λ r. row_right n r.0 r.1) (enumerate_from job rows)
-
 -- The first job whose row is not right.
 abbrev pub first_wrong_row : List (List ℕ) → Option ℕ
 first_wrong_row rows = position (λ r. not (row_right (length rows) r.0 r.1)) (enumerate_from 0 rows)

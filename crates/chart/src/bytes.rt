@@ -17,11 +17,11 @@ pub type RowBytes = [u8; ROW_BYTES];
 pub const CHART_MAX: usize = ROW_BYTES * JOBS_MAX;
 
 // Where the parts of a job's bytes begin.
-const NEED: usize = 0;
+pub const NEED: usize = 0;
 
-const COUNT: usize = 1;
+pub const COUNT: usize = 1;
 
-const TARGETS: usize = 2;
+pub const TARGETS: usize = 2;
 
 // The need that a job's bytes say.
 pub fn need_in(row: &RowBytes) -> u8

@@ -4,7 +4,8 @@ mod reads;
 
 ghost use Rattle.std.specs.Prelude.{◌≡◌, ◌≤◌, true, length};
 ghost use Rattle.tables.specs.Tables.{jobs_max};
-ghost use Rattle.chart.specs.Check.{rows_right};
+ghost use Rattle.rows.specs.Obeys.{rows_obey};
+ghost use Rattle.chart.specs.Check.{row_right};
 
 use crate::bytes::RowBytes;
 
@@ -13,5 +14,5 @@ use crate::bytes::RowBytes;
 pub struct Chart<'a> {
     rows: &'a [RowBytes],
     ghost few: { length rows.now ≤ jobs_max },
-    ghost right: { rows_right (length rows.now) 0 rows.now ≡ true },
+    ghost right: { rows_obey (row_right (length rows.now)) 0 rows.now ≡ true },
 }

@@ -10,4 +10,4 @@ targets_in-requires c =
     let rows = c.args.self.now.rows.now in
     let row = c.in-Some.row.now in
     let found = c.in-Some.ensures.lookup in
-    subst (λ (bytes : List ℕ). count_byte bytes ≤ targets_max) (sym found.1) (right_rows_have_few_targets _ 0 rows c.args.self.now.right c.args.job row found.3.0)
+    subst (λ (bytes : List ℕ). count_byte bytes ≤ targets_max) (sym found.1) (right_rows_have_few_targets _ rows c.args.self.now.right c.args.job row found.3.0)
