@@ -1,24 +1,22 @@
 -- Right rows: what they tell.
-use Rattle.std.proofs.Common.{◌≡◌, ℕ, ◌<◌, ◌≤◌, true, ◌&&◌, leb, List, length, get_or, drop, map, sym, subst}
+use Rattle.std.proofs.Common.{◌≡◌, ℕ, ◌<◌, ◌≤◌, true, List, length, get_or, map, sym, subst}
 use Rattle.std.proofs.lemmas.List.{length-map}
-use Rattle.std.proofs.lemmas.Bool.{and_parts, leb-true}
-use Rattle.rows.specs.Law.{targets_max, row_fits}
+use Rattle.std.proofs.lemmas.Bool.{and_parts}
+use Rattle.rows.specs.Law.{targets_max, places_fit, row_fits}
 use Rattle.rows.specs.Obeys.{rows_obey}
 use Rattle.rows.proofs.ObeysLemmas.{obeyed_at, map_obeys}
+use Rattle.rows.proofs.Places.{places_tell}
 use Rattle.tables.specs.Tables.{lawful}
 use Rattle.chart.specs.Layout.{count_byte, target_bytes, row_of}
-use Rattle.chart.specs.Check.{all_zero, row_right}
+use Rattle.chart.specs.Check.{row_right}
 
 -- One row.
 right_row_has_few_targets : (n job : ℕ) (row : List ℕ) → row_right n job row ≡ true → count_byte row ≤ targets_max
 right_row_has_few_targets n job row h =
-    leb-true (count_byte row) targets_max (and_parts (leb (count_byte row) targets_max) (row_fits n job (row_of row) && all_zero (drop (count_byte row) (target_bytes row))) h).0
+    (places_tell (count_byte row) (target_bytes row) (and_parts (places_fit (count_byte row) (target_bytes row)) (row_fits n job (row_of row)) h).0).few
 
 right_row_fits : (n job : ℕ) (row : List ℕ) → row_right n job row ≡ true → row_fits n job (row_of row) ≡ true
-right_row_fits n job row h =
-    let zeros = all_zero (drop (count_byte row) (target_bytes row)) in
-    let p = and_parts (leb (count_byte row) targets_max) (row_fits n job (row_of row) && zeros) h in
-    (and_parts (row_fits n job (row_of row)) zeros p.1).0
+right_row_fits n job row h = (and_parts (places_fit (count_byte row) (target_bytes row)) (row_fits n job (row_of row)) h).1
 
 -- Right rows obey the row law.
 pub right_rows_are_lawful : (rows : List (List ℕ)) → rows_obey (row_right (length rows)) 0 rows ≡ true → lawful (map row_of rows) ≡ true

@@ -4,20 +4,22 @@ use Rattle.std.proofs.Math.Nat.{mul-mod_right, mul-div_cancel_left}
 use Rattle.std.proofs.Math.Seq.{take-append_seam, drop-append_seam, take-append-add, drop-append-add}
 use Rattle.std.proofs.lemmas.Grind.{flat_map-append}
 use borrow.Rule.Slice.PartMut.{put_mid, post_of}
-use Rattle.std.proofs.lemmas.Bool.{and_parts, and_from, le-leb}
+use Rattle.std.proofs.lemmas.Bool.{and_parts, and_from}
 use Rattle.std.proofs.lemmas.Bool.Decides.{nat_tests}
 use Rattle.std.proofs.lemmas.Iterator.Adapters.{position_from-zero}
 use Rattle.std.proofs.lemmas.Option.{slice_get-get_or}
-use Rattle.std.proofs.lemmas.List.{length-append, length-replicate, length-map, length-take-le, take_more, drop-drop}
+use Rattle.std.proofs.lemmas.List.{length-append, length-map, length-take-le, take_more, drop-drop}
 use Rattle.std.specs.List.{enumerate_from, position_from}
 use Rattle.std.specs.Simd.{first_chunks}
 use Rattle.rows.proofs.Laws.{fits_counts}
 use Rattle.rows.proofs.ObeysLemmas.{map_obeys}
+use Rattle.rows.proofs.Places.{places_tell, places_of_targets_fit, targets_are_in_use}
 use Rattle.rows.specs.Law.{targets_max, row_fits}
 use Rattle.rows.specs.Obeys.{rows_obey}
+use Rattle.rows.specs.Views.{places_of}
 use Rattle.rows.specs.Waiting.{Waiting, idle, at, target_at}
 use Rattle.tables.specs.Tables.{lawful, IsTable}
-use Rattle.chart.specs.Check.{all_zero, row_right, first_wrong_row, wrong_length, rows_told, checked}
+use Rattle.chart.specs.Check.{row_right, first_wrong_row, wrong_length, rows_told, checked}
 use Rattle.chart.specs.Layout.{row_of, job_count, bytes_of_jobs}
 use Rattle.chart.specs.Writing.{bytes_of_row, bytes_of_rows, ReadsBack}
 
@@ -45,22 +47,15 @@ next_place w place target few less found row before =
 
 -- ---- one row
 
-zeros_are_zero : (k : ℕ) → all_zero (replicate k 0) ≡ true
-zeros_are_zero zero = refl
-zeros_are_zero (suc k) = zeros_are_zero k
-
 module _ (w : Waiting) (few : length w.targets ≤ targets_max) where
   pub length-bytes_of_row : length (bytes_of_row w) ≡ 18
-  length-bytes_of_row = omega (arith, length-append w.targets (replicate (targets_max - length w.targets) 0), length-replicate {A = ℕ} (targets_max - length w.targets) 0)
+  length-bytes_of_row = let places = places_tell (length w.targets) (places_of w.targets) (places_of_targets_fit w.targets few) in omega (arith, places.whole)
 
   row_read_back : row_of (bytes_of_row w) ≡ w
-  row_read_back = ap (λ ts. record { need = w.need; targets = ts }) (take-append_seam w.targets (replicate (targets_max - length w.targets) 0))
+  row_read_back = ap (λ ts. record { need = w.need; targets = ts }) (targets_are_in_use w.targets)
 
   written_row_is_right : (n job : ℕ) → row_fits n job w ≡ true → row_right n job (bytes_of_row w) ≡ true
-  written_row_is_right n job fits =
-      and_from _ _ (le-leb _ _ few) (and_from _ _
-      (ap (row_fits n job) row_read_back ∙ fits)
-      (ap all_zero (drop-append_seam w.targets (replicate (targets_max - length w.targets) 0)) ∙ zeros_are_zero (targets_max - length w.targets)))
+  written_row_is_right n job fits = and_from _ _ (places_of_targets_fit w.targets few) (ap (row_fits n job) row_read_back ∙ fits)
 
 -- ---- all rows
 

@@ -1,26 +1,19 @@
 -- What the check of a chart answers.
-use Rattle.std.specs.Prelude.{ℕ, ◌%◌, Bool, cond, not, ◌&&◌, ◌||◌, List, [], length, map, position, drop, Some, None, Ok, Err, Option, Result, ◌==◌, nat_le, nat_lt}
-use Rattle.std.specs.List.{enumerate_from, list_all}
+use Rattle.std.specs.Prelude.{ℕ, ◌%◌, Bool, cond, not, ◌||◌, List, [], length, map, position, Some, None, Ok, Err, Option, Result, ◌==◌, nat_lt}
+use Rattle.std.specs.List.{enumerate_from}
 use Rattle.rows.specs.Waiting.{Waiting}
-use Rattle.rows.specs.Law.{targets_max, row_fits}
+use Rattle.rows.specs.Law.{stored_fits}
 use Rattle.chart.specs.declared.fault.ChartFault.{ChartFault}
 use Rattle.chart.specs.declared.fault.ChartFault.TheVariants.{WrongLength, WrongRow}
-use Rattle.chart.specs.Layout.{row_bytes, chart_max, count_byte, target_bytes, row_of, job_count, bytes_of_jobs}
+use Rattle.chart.specs.Layout.{row_bytes, chart_max, need_byte, count_byte, target_bytes, row_of, job_count, bytes_of_jobs}
 
 -- No byte, a part of a row, or more than 256 rows.
 abbrev pub wrong_length : ℕ → Bool
 wrong_length len = len == 0 || (not (len % row_bytes == 0) || nat_lt chart_max len)
 
--- Every byte is 0.
-abbrev pub all_zero : List ℕ → Bool
-all_zero bytes = list_all (λ b. b == 0) bytes
-
--- The bytes of `job`, one of n jobs, are right: there are no more targets than places, the row obeys the row law, and
--- every target byte that is not in use is 0.
+-- The bytes of `job`, one of n jobs, are right: they obey the law of a stored row, by which the target bytes that are not in use are 0.
 abbrev pub row_right : (n job : ℕ) → List ℕ → Bool
-row_right n job bytes =
-    nat_le (count_byte bytes) targets_max
-    && (row_fits n job (row_of bytes) && all_zero (drop (count_byte bytes) (target_bytes bytes)))
+row_right n job bytes = stored_fits n job (need_byte bytes) (count_byte bytes) (target_bytes bytes)
 
 -- The first job whose row is not right.
 abbrev pub first_wrong_row : List (List ℕ) → Option ℕ

@@ -1,15 +1,15 @@
 -- Rows written as a chart, and what comes of reading them.
-use Rattle.std.specs.Prelude.{◌≡◌, ℕ, ◌-◌, cond, List, ◌∷◌, ◌++◌, length, replicate, Ok, Err, Result, ◌==◌}
+use Rattle.std.specs.Prelude.{◌≡◌, ℕ, cond, List, ◌∷◌, length, Ok, Err, Result, ◌==◌}
 use Rattle.std.specs.List.{flat_map}
 use Rattle.rows.specs.Waiting.{Waiting}
-use Rattle.rows.specs.Law.{targets_max}
+use Rattle.rows.specs.Views.{places_of}
 use Rattle.chart.specs.Check.{checked, chart_rows}
 use Rattle.chart.specs.declared.fault.ChartFault.{ChartFault}
 use Rattle.chart.specs.declared.fault.ChartFault.TheVariants.{WrongLength}
 
 -- The bytes of a job: its need, its number of targets, the targets, and 0 in each target byte that is not in use.
 abbrev pub bytes_of_row : Waiting → List ℕ
-bytes_of_row w = w.need ∷ length w.targets ∷ (w.targets ++ replicate (targets_max - length w.targets) 0)
+bytes_of_row w = w.need ∷ length w.targets ∷ places_of w.targets
 
 -- The bytes of all jobs, in the order of the jobs.
 abbrev pub bytes_of_rows : List Waiting → List ℕ

@@ -1,10 +1,10 @@
 // The bytes of rows, read where they lie.
-ghost use Rattle.std.specs.Prelude.{◌≡◌, ◌≤◌, drop};
+ghost use Rattle.std.specs.Prelude.{◌≡◌, ◌≤◌};
 ghost use Rattle.rows.specs.Law.{targets_max};
 ghost use Rattle.chart.specs.Layout.{need_byte, count_byte, target_bytes, row_of};
-ghost use Rattle.chart.specs.Check.{all_zero, row_right, first_wrong_row};
+ghost use Rattle.chart.specs.Check.{row_right, first_wrong_row};
 
-use rows::{TARGETS_MAX, row_fits};
+use rows::{places_fit, row_fits};
 use tables::JOBS_MAX;
 
 // How many bytes a job has: its need, its number of targets, and sixteen target bytes.
@@ -45,28 +45,19 @@ pub fn targets_in(row: &RowBytes) -> &[u8]
     &row[TARGETS..TARGETS + count_in(row)]
 }
 
-// The target bytes that are not in use.
-fn unused_in(row: &RowBytes) -> &[u8]
-    requires { count_byte row.now ≤ targets_max }
-    ensures { result.now ≡ drop (count_byte row.now) (target_bytes row.now) }
+// All target bytes, in use or not.
+fn target_bytes(row: &RowBytes) -> &[u8]
+    ensures { result.now ≡ target_bytes row.now }
 {
-    &row[TARGETS + count_in(row)..]
-}
-
-// Whether every byte is 0.
-fn all_zero(bytes: &[u8]) -> bool
-    ensures { result ≡ all_zero bytes.now }
-{
-    bytes.iter().all(|byte| *byte == 0)
+    &row[TARGETS..]
 }
 
 // Whether the bytes of `job`, one of `jobs` jobs, are right.
 fn is_right(jobs: usize, job: usize, row: &RowBytes) -> bool
     ensures { result ≡ row_right jobs job row.now }
 {
-    count_in(row) <= TARGETS_MAX
+    places_fit(count_in(row), target_bytes(row))
         && row_fits(jobs, job, need_in(row), targets_in(row))
-        && all_zero(unused_in(row))
 }
 
 // The first job whose bytes are not right.

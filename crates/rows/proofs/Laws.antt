@@ -1,10 +1,10 @@
 -- The row law is kept by all that makes a row, and what it tells.
-use Rattle.std.proofs.Common.{◌≡◌, ℕ, ◌-◌, ◌<◌, Bool, true, false, not, eqb, leb, List, length, is_some, Some, None, Ok, Option, sym, refl, subst, ⊎_elim, arith}
+use Rattle.std.proofs.Common.{◌≡◌, ℕ, ◌-◌, ◌<◌, Bool, true, false, not, eqb, List, length, is_some, Some, None, Ok, Option, sym, refl, subst, ⊎_elim, arith}
 use mathlib.Core.Bool.{not-not}
 use Rattle.std.proofs.lemmas.Bool.{cases_Bool, and_parts, and_from, eqb-false}
 use Rattle.rows.specs.declared.plain.PlainRow.{PlainRow}
 use Rattle.rows.specs.Waiting.{Waiting, idle, among}
-use Rattle.rows.specs.Law.{targets_max, counts_fit, rising, targets_fit, row_fits, shaped, sound}
+use Rattle.rows.specs.Law.{counts_fit, rising, targets_fit, row_fits, shaped, places_fit, sound}
 use Rattle.rows.specs.Changes.{wrong_counts, first_wrong, without, granted}
 use Rattle.rows.specs.Views.{waiting, plain_fits, placed, requested}
 use Rattle.rows.proofs.Counts.{Counts, fit_tells, right_counts_fit, one_less_fits}
@@ -67,10 +67,10 @@ fits_below n job w h u a = among_fitting_is_below n job 0 w.targets (fits_parts 
 -- A stored row obeys the law when it is sound and what it says fits.
 pub fits_sound : (n job : ℕ) (p : PlainRow) → plain_fits n job p ≡ true → sound p.need p.count p.targets ≡ true
 fits_sound n job p h =
-    let q = and_parts (leb p.count targets_max) (row_fits n job (waiting p)) h in
-    and_from (leb p.count targets_max) (shaped (waiting p)) q.0 (fits_shaped n job (waiting p) q.1)
+    let q = and_parts (places_fit p.count p.targets) (row_fits n job (waiting p)) h in
+    and_from (places_fit p.count p.targets) (shaped (waiting p)) q.0 (fits_shaped n job (waiting p) q.1)
 
 pub sound_fits : (n job : ℕ) (p : PlainRow) → sound p.need p.count p.targets ≡ true → row_fits n job (waiting p) ≡ true → plain_fits n job p ≡ true
 sound_fits n job p s h =
-    let q = and_parts (leb p.count targets_max) (shaped (waiting p)) s in
-    and_from (leb p.count targets_max) (row_fits n job (waiting p)) q.0 h
+    let q = and_parts (places_fit p.count p.targets) (shaped (waiting p)) s in
+    and_from (places_fit p.count p.targets) (row_fits n job (waiting p)) q.0 h

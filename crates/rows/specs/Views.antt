@@ -1,13 +1,16 @@
 -- What the rows of the program stand for.
-use Rattle.std.specs.Prelude.{◌≡◌, ℕ, Bool, true, false, cond, ◌&&◌, List, length, Some, None, Ok, Err, Option, Result, MatchResult, nat_le}
+use Rattle.std.specs.Prelude.{◌≡◌, ◌↔◌, ℕ, ◌-◌, Bool, true, false, cond, List, ◌++◌, length, replicate, ◌==◌, Some, None, Ok, Err, Option, Result, MatchResult}
 use Rattle.std.specs.Borrow.{Bor}
+use Rattle.std.specs.List.{list_all}
+use Rattle.std.specs.Ordering.{on, eq_of_both}
+use Rattle.std.specs.Cmp.Lexicographic.{pointwise}
 use Rattle.rows.specs.declared.plain.PlainRow.{PlainRow}
 use Rattle.rows.specs.declared.plain.Row.{Row}
 use Rattle.rows.specs.declared.plain.LawBroken.{LawBroken}
 use Rattle.rows.specs.declared.plain.RowFault.{RowFault}
 use Rattle.rows.specs.declared.plain.RowFault.TheVariants.{WrongCounts, WrongTarget}
 use Rattle.rows.specs.Waiting.{Waiting, idle, among}
-use Rattle.rows.specs.Law.{targets_max, row_fits, stored, sound}
+use Rattle.rows.specs.Law.{targets_max, stored, sound, stored_fits}
 use Rattle.rows.specs.Changes.{wrong_counts, first_wrong, granted}
 
 -- What a stored row says.
@@ -27,14 +30,31 @@ waiting_of r = waiting r.plain
 abbrev pub Checked : PlainRow → Result Row LawBroken → Type 0
 Checked p r = MatchResult r (λ row. (sound p.need p.count p.targets ≡ true) × (row.plain ≡ p)) (λ e. sound p.need p.count p.targets ≡ false)
 
--- A checked row is stored as it is held, and that is sound.
+-- The places of targets: they come first, and the places that they leave are 0.
+abbrev pub places_of : List ℕ → List ℕ
+places_of targets = targets ++ replicate (targets_max - length targets) 0
+
+-- How a row is stored, which is decided by its need and its targets.
+abbrev pub stored_as : Waiting → PlainRow
+stored_as w = record { need = w.need; count = length w.targets; targets = places_of w.targets }
+
+-- Every stored row is sound.
+abbrev pub all_sound : List PlainRow → Bool
+all_sound rows = list_all (λ p. sound p.need p.count p.targets) rows
+
+-- A checked row is stored as what it says decides, and that is sound. A sound stored row equals it exactly if it says the same.
 pub record StoredWhole (r : Row) (p : PlainRow) : Type 0 where
-  pub value : p ≡ r.plain
+  pub value : p ≡ stored_as (waiting_of r)
   pub lawful : sound p.need p.count p.targets ≡ true
+  pub decided : (q : PlainRow) → sound q.need q.count q.targets ≡ true → (q ≡ p) ↔ (waiting q ≡ waiting_of r)
+
+-- Whether two rows say the same: the same need, and the same targets.
+abbrev pub says_same : Row → Row → Bool
+says_same = eq_of_both (on (λ r. (waiting_of r).need) ◌==◌) (on (λ r. (waiting_of r).targets) (pointwise ◌==◌))
 
 -- The law of a stored row of `job`, one of n jobs.
 abbrev pub plain_fits : (n job : ℕ) → PlainRow → Bool
-plain_fits n job p = nat_le p.count targets_max && row_fits n job (waiting p)
+plain_fits n job p = stored_fits n job p.need p.count p.targets
 
 -- The row that was made, by what it says; or why none was.
 abbrev pub seen : Result Row RowFault → Result Waiting RowFault

@@ -6,5 +6,5 @@ mod plain;
 #[cfg(test)]
 mod tests;
 
-pub use parts::row_fits;
+pub use parts::{places_fit, row_fits};
 pub use plain::{LawBroken, PlainRow, Row, RowFault, TARGETS_MAX};

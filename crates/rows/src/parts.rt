@@ -1,10 +1,11 @@
 // Looking through targets, and placing them in a row.
-ghost use Rattle.std.specs.Prelude.{◌≡◌, ◌-◌, ◌<◌, ◌≤◌, length, take};
+ghost use Rattle.std.specs.Prelude.{◌≡◌, ◌<◌, ◌≤◌, length};
 ghost use Rattle.std.specs.List.{remove};
 ghost use Rattle.rows.specs.Waiting.{among};
-ghost use Rattle.rows.specs.Law.{targets_max, counts_fit, rising, row_fits};
+ghost use Rattle.rows.specs.Law.{targets_max, counts_fit, rising, row_fits, all_zero, places_fit};
 ghost use Rattle.rows.specs.Changes.{first_wrong};
 ghost use Rattle.rows.specs.Places.{Placed};
+ghost use Rattle.rows.specs.Views.{places_of};
 
 use crate::plain::TARGETS_MAX;
 use std::simd::cmp::SimdPartialEq;
@@ -57,30 +58,44 @@ pub fn first_wrong(jobs: usize, job: usize, targets: &[u8]) -> Option<usize>
     None
 }
 
-// Whether a need and targets are a row of `job`, one of `jobs` jobs, that obeys the row law.
+/// Whether a need and targets are a row of `job`, one of `jobs` jobs, that obeys the row law.
 pub fn row_fits(jobs: usize, job: usize, need: u8, targets: &[u8]) -> bool
     ensures { result ≡ row_fits jobs job (record { need = need; targets = targets.now }) }
 {
     counts_fit(need, targets.len()) && first_wrong(jobs, job, targets).is_none()
 }
 
-// The targets at the first places.
+// Whether every place is 0.
+fn all_zero(places: &[u8]) -> bool
+    ensures { result ≡ all_zero places.now }
+{
+    places.iter().all(|place| *place == 0)
+}
+
+/// Whether these can be the places of a stored row with `count` targets: there are 16, no more are in use, and the unused ones are 0.
+pub fn places_fit(count: usize, places: &[u8]) -> bool
+    ensures { result ≡ places_fit count places.now }
+{
+    places.len() == TARGETS_MAX && count <= TARGETS_MAX && all_zero(&places[count..])
+}
+
+// The targets at the first places, and 0 at the others.
 pub fn padded(targets: &[u8]) -> [u8; TARGETS_MAX]
     requires { length targets.now ≤ targets_max }
-    ensures { take (length targets.now) result ≡ targets.now }
+    ensures { result ≡ places_of targets.now }
 {
     let mut places = [0; TARGETS_MAX];
     places[..targets.len()].copy_from_slice(targets);
     places
 }
 
-// The targets but the one at a place, at the first places.
+// The targets but the one at a place, at the first places, and 0 at the others.
 pub fn without_place(targets: &[u8], place: usize) -> [u8; TARGETS_MAX]
     requires { (length targets.now ≤ targets_max) × (place < length targets.now) }
-    ensures { take (length targets.now - 1) result ≡ remove targets.now place }
+    ensures { result ≡ places_of (remove targets.now place) }
 {
-    let mut places = [0; TARGETS_MAX];
-    places[..place].copy_from_slice(&targets[..place]);
-    places[place..targets.len() - 1].copy_from_slice(&targets[place + 1..]);
-    places
+    let mut left = [0; TARGETS_MAX];
+    left[..place].copy_from_slice(&targets[..place]);
+    left[place..targets.len() - 1].copy_from_slice(&targets[place + 1..]);
+    left
 }

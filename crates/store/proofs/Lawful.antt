@@ -2,7 +2,7 @@
 use Rattle.std.proofs.Common.{◌≡◌, ℕ, ◌<◌, ◌≤◌, Bool, true, cond, ap, ◌∙◌, arith}
 use Rattle.rows.specs.declared.plain.PlainRow.{PlainRow}
 use Rattle.rows.specs.Law.{sound, row_fits}
-use Rattle.rows.specs.Views.{waiting, plain_fits}
+use Rattle.rows.specs.Views.{waiting, stored_as, plain_fits}
 use Rattle.rows.specs.Waiting.{idle}
 use Rattle.rows.proofs.Laws.{idle_fits, sound_fits}
 use Rattle.groups.specs.declared.store.Ending.{Ending}
@@ -22,8 +22,12 @@ module _ (n : ℕ) (s : State PlainRow) (l : Lawful n s) where
   pub lawful_if : (q : Bool) (t : State PlainRow) → Lawful n t → Lawful n (cond q t s)
   lawful_if q t k = record { few = l.few; obeys = obeys_if (plain_fits n) s l.obeys q t k.obeys }
 
-pub fresh_lawful : (n mark memory : ℕ) (row : PlainRow) → n ≤ 256 → waiting row ≡ idle → sound row.need row.count row.targets ≡ true → Lawful n (fresh 256 row mark memory)
-fresh_lawful n mark memory row few e l = record {
+-- The stored row of an active job obeys the law of every job.
+pub idle_row_fits : (n job : ℕ) (row : PlainRow) → row ≡ stored_as idle → plain_fits n job row ≡ true
+idle_row_fits n job row e = sound_fits n job row (ap (λ p. sound p.need p.count p.targets) e) (ap (λ p. row_fits n job (waiting p)) e ∙ idle_fits n job)
+
+pub fresh_lawful : (n mark memory : ℕ) (row : PlainRow) → n ≤ 256 → row ≡ stored_as idle → Lawful n (fresh 256 row mark memory)
+fresh_lawful n mark memory row few e = record {
   few = few;
-  obeys = fresh_obeys (plain_fits n) row mark memory (λ k. sound_fits n k row l (ap (row_fits n k) e ∙ idle_fits n k));
+  obeys = fresh_obeys (plain_fits n) row mark memory (λ k. idle_row_fits n k row e);
 }

@@ -1,22 +1,40 @@
 -- The rows that the book shows, read off the rows that it stores.
-use Rattle.std.proofs.Common.{◌≡◌, ℕ, ◌≤◌, true, false, length, ap, ◌∙◌, Some, None, Option, IfSome, Bor, Result, Ok, Err, IsOk, refl, take, subst, ⊎_elim, arith}
+use Rattle.std.proofs.Common.{◌≡◌, ℕ, ◌+◌, ◌-◌, ◌<◌, ◌≤◌, true, false, List, [], ◌∷◌, length, map, sym, ap, ◌∙◌, Some, None, Option, IfSome, MatchOption, unwrap_or, ◌⊎◌, inl, inr, Bor, Result, Ok, Err, IsOk, refl, take, subst, ⊎_elim, arith}
+use Rattle.std.specs.List.{slice_range}
 use Rattle.std.specs.Slice.{IsGetResult}
-use Rattle.std.proofs.lemmas.Bool.{cases_Bool, and_parts}
+use Rattle.std.proofs.lemmas.List.{take_all}
+use Rattle.std.proofs.lemmas.Bool.{cases_Bool, and_parts, and_from}
 use Rattle.rows.specs.declared.plain.LawBroken.{LawBroken}
 use Rattle.rows.specs.declared.plain.PlainRow.{PlainRow}
 use Rattle.rows.specs.declared.plain.Row.{Row}
-use Rattle.rows.specs.Law.{row_fits, sound}
+use Rattle.rows.specs.Law.{row_fits, places_fit, sound}
 use Rattle.rows.specs.Obeys.{rows_obey}
-use Rattle.rows.specs.Views.{waiting, plain_fits, Checked}
+use Rattle.rows.specs.Views.{waiting, all_sound, plain_fits, Checked}
 use Rattle.rows.specs.Waiting.{at, among}
 use Rattle.rows.proofs.Laws.{fits_sound}
-use Rattle.tables.specs.Tables.{lawful}
+use Rattle.tables.specs.Tables.{jobs_max, lawful}
 use Rattle.tables.proofs.Laws.{target_below}
 use Rattle.groups.specs.State.{State}
 use Rattle.groups.specs.Views.{view}
 use Rattle.groups.proofs.ObeysLemmas.{read_obeys, view_obeys}
 use Rattle.groups.proofs.Viewed.{length_view}
 use Rattle.store.specs.Memory.{Lawful}
+
+-- the rows that are read as the first ones, or all where there are not so many, are the first ones
+pub first_ones_read : (n : ℕ) (rows : List PlainRow) (found : Option (Bor (List PlainRow))) (all read : Bor (List PlainRow)) → all.now ≡ rows
+    → MatchOption found ((n < 0) ⊎ (length rows < n)) (λ x. (0 ≤ n) × (n ≤ length rows) × (x.now ≡ slice_range rows 0 n) × (length x.now + 0 ≡ n)) → read ≡ unwrap_or found all → read.now ≡ take n rows
+first_ones_read n rows None all read a (inl l) e = absurd (omega arith)
+first_ones_read n rows None all read a (inr l) e = ap (λ (r : Bor (List PlainRow)). r.now) e ∙ a ∙ sym (take_all n rows (omega arith))
+first_ones_read n rows (Some x) all read a h e =
+    let whole : n - 0 ≡ n = omega arith in
+    ap (λ (r : Bor (List PlainRow)). r.now) e ∙ h.2 ∙ ap (λ k. take k rows) whole
+
+-- so all stored rows are sound
+pub obeying_rows_are_sound : (n job : ℕ) (rows : List PlainRow) → rows_obey (plain_fits n) job rows ≡ true → all_sound rows ≡ true
+obeying_rows_are_sound n job [] o = refl
+obeying_rows_are_sound n job (r ∷ rs) o =
+    let p = and_parts (plain_fits n job r) (rows_obey (plain_fits n) (job + 1) rs) o in
+    and_from (sound r.need r.count r.targets) (all_sound rs) (fits_sound n job r p.0) (obeying_rows_are_sound n (job + 1) rs p.1)
 
 -- a sound row passes the check as it is
 pub sound_is_checked : (p : PlainRow) (r : Result Row LawBroken) → Checked p r → sound p.need p.count p.targets ≡ true → IsOk r
@@ -44,7 +62,7 @@ module _ (n : ℕ) (s : State PlainRow) (l : Lawful n s) where
   pub lawful_seen : lawful (view n waiting s).rows ≡ true
   lawful_seen =
       ap (λ k. rows_obey (row_fits k) 0 (view n waiting s).rows) jobs_seen
-      ∙ view_obeys (plain_fits n) s l.obeys n waiting (row_fits n) (λ k p h. (and_parts _ (row_fits n k (waiting p)) h).1)
+      ∙ view_obeys (plain_fits n) s l.obeys n waiting (row_fits n) (λ k p h. (and_parts (places_fit p.count p.targets) (row_fits n k (waiting p)) h).1)
 
   -- no job waits for one beyond the last
   pub none_waits_beyond : (waiter job : ℕ) → n ≤ job → among job (at (view n waiting s).rows waiter).targets ≡ false
@@ -53,3 +71,8 @@ module _ (n : ℕ) (s : State PlainRow) (l : Lawful n s) where
       (λ (a : among job (at (view n waiting s).rows waiter).targets ≡ true). absurd (omega (arith, jobs_seen, target_below (view n waiting s).rows lawful_seen waiter job a)))
       (λ a. a)
       (cases_Bool (among job (at (view n waiting s).rows waiter).targets))
+
+-- So it is of stored rows without groups.
+pub snapshot_is_lawful : (n : ℕ) (rows : List PlainRow) → n ≤ jobs_max → length rows ≡ 256 → rows_obey (plain_fits n) 0 rows ≡ true → lawful (map waiting (take n rows)) ≡ true
+snapshot_is_lawful n rows few whole o =
+    lawful_seen n (record { rows = rows; groups = []; mark = 0; room = 0 }) (record { few = few; obeys = record { whole = whole; rows = o; olds = refl } })

@@ -53,12 +53,15 @@ module _ (n : ℕ) (s : State PlainRow) (l : Lawful n s) (job : ℕ) (row : Row)
   below : job < n
   below = rw (jobs_seen n s l) at less
 
+  says_the_row : waiting p ≡ waiting_of row
+  says_the_row = (h.decided p h.lawful).0 refl
+
   pub write_lawful : row_fits (length (view n waiting s).rows) job (waiting_of row) ≡ true → Lawful n (written s job p)
   write_lawful fits =
-      written_lawful n s l job p below (sound_fits n job p h.lawful (ap (λ w. row_fits n job (waiting w)) h.value ∙ ap (λ k. row_fits k job (waiting_of row)) (sym (jobs_seen n s l)) ∙ fits))
+      written_lawful n s l job p below (sound_fits n job p h.lawful (ap (row_fits n job) says_the_row ∙ ap (λ k. row_fits k job (waiting_of row)) (sym (jobs_seen n s l)) ∙ fits))
 
   pub write_seen : book_of (view n waiting (written s job p)) ≡ book_of (written (view n waiting s) job (waiting_of row))
-  write_seen = ap book_of (view_written n waiting s job p (wide n s l) below ∙ ap (λ w. written (view n waiting s) job (waiting w)) h.value)
+  write_seen = ap book_of (view_written n waiting s job p (wide n s l) below ∙ ap (written (view n waiting s) job) says_the_row)
 
 -- a fault that is carried on
 pub carried_fault : (r : Result (Unit {0}) BookFault) (e : BookFault) → IsErrAnd r (λ y. y ≡ e) → told r ≡ refusal e

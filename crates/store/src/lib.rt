@@ -5,6 +5,7 @@ mod calls;
 mod fault;
 mod snapshot;
 mod store;
+mod stored;
 
 pub use calls::Edit;
 pub use fault::{BookFault, RefusedStub};

@@ -1,17 +1,17 @@
 // From a stored row to a checked one, and back.
-ghost use Rattle.std.specs.Prelude.{◌≡◌, true};
-ghost use Rattle.rows.specs.Law.{sound};
+ghost use Rattle.std.specs.Prelude.{◌≡◌};
+ghost use Rattle.std.specs.Cmp.Rules.{comparing};
+ghost use Rattle.std.proofs.Common.{rules};
 ghost use Rattle.rows.specs.Waiting.{idle};
-ghost use Rattle.rows.specs.Views.{waiting, waiting_of, Checked, StoredWhole};
+ghost use Rattle.rows.specs.Views.{stored_as, waiting_of, says_same, Checked, StoredWhole};
 
-use crate::parts::{counts_fit, rises};
+use crate::parts::{counts_fit, places_fit, rises};
 use crate::plain::{LawBroken, PlainRow, Row, TARGETS_MAX};
 
 impl PlainRow {
-    // The stored row of an active job.
+    /// The stored row of an active job.
     pub fn idle() -> PlainRow
-        ensures value { waiting result ≡ idle }
-        ensures lawful { sound result.need result.count result.targets ≡ true }
+        ensures { result ≡ stored_as idle }
     {
         PlainRow {
             need: 0,
@@ -22,7 +22,7 @@ impl PlainRow {
 }
 
 impl Row {
-    // The row of an active job.
+    /// The row of an active job.
     pub fn idle() -> Row
         ensures { waiting_of result ≡ idle }
     {
@@ -40,7 +40,10 @@ impl TryFrom<PlainRow> for Row {
 
     fn try_from(plain: PlainRow) -> Result<Row, LawBroken> {
         let count = plain.count as usize;
-        if !counts_fit(plain.need, count) || !rises(&plain.targets[..count]) {
+        if !places_fit(count, &plain.targets)
+            || !counts_fit(plain.need, count)
+            || !rises(&plain.targets[..count])
+        {
             return Err(LawBroken);
         }
         Ok(Row { plain })
@@ -54,4 +57,19 @@ impl From<Row> for PlainRow {
     fn from(row: Row) -> PlainRow {
         row.plain
     }
+}
+
+// Two rows are equal exactly if they say the same. Their stored rows are compared, as these are equal just then.
+impl PartialEq for Row {
+    ghost eq = { says_same };
+
+    ghost laws = { Prim.search (comparing, rules) };
+
+    fn eq(&self, other: &Row) -> bool {
+        self.plain == other.plain
+    }
+}
+
+impl Eq for Row {
+    ghost laws = { Prim.search (comparing, rules) };
 }

@@ -10,6 +10,7 @@ ghost use Rattle.store.specs.Plain.{plain};
 
 use crate::snapshot::Snapshot;
 use crate::store::Store;
+use crate::stored::{need_of, targets_of};
 use rows::{PlainRow, Row};
 use tables::{Table, TwoWayTable};
 
@@ -29,16 +30,6 @@ impl<'a> Store<'a> {
         match self.stored(job) {
             Some(plain) => Row::try_from(*plain).unwrap(),
             None => Row::idle(),
-        }
-    }
-
-    // The targets of a job.
-    fn targets_of(&self, job: usize) -> &[u8]
-        ensures { result.now ≡ (at self.now.state.rows job).targets }
-    {
-        match self.stored(job) {
-            Some(plain) => plain.in_use(),
-            None => &[],
         }
     }
 
@@ -70,15 +61,15 @@ impl<'a> Table for Store<'a> {
     }
 
     fn need(&self, job: usize) -> u8 {
-        self.stored(job).map_or(0, |plain| plain.need)
+        need_of(self.stored(job))
     }
 
     fn target_count(&self, job: usize) -> usize {
-        self.targets_of(job).len()
+        targets_of(self.stored(job)).len()
     }
 
     fn target(&self, job: usize, place: usize) -> Option<u8> {
-        self.targets_of(job).get(place).copied()
+        targets_of(self.stored(job)).get(place).copied()
     }
 
     fn waits_for(&self, waiter: usize, job: usize) -> bool {

@@ -1,4 +1,4 @@
--- The targets before the place, and then those after it.
+-- The targets before the place, then those after it, and then zeros.
 use Rattle.std.proofs.Common.{◌+◌, ◌-◌, length, refl, arith}
 use Rattle.rows.proofs.Stored.{stored_without_one}
 use Rattle.rows.proofs.parts.without_place.Goals as goal
@@ -6,4 +6,4 @@ use Rattle.rows.proofs.parts.without_place.Goals as goal
 pub returns : goal.returns
 returns c =
     let ts = c.args.targets.now in
-    stored_without_one ts _ _ _ c.args.place (length ts - (c.args.place + 1)) (omega arith) refl c.copy_from_slice.ensures.after c.copy_from_slice-2.ensures.after
+    stored_without_one ts _ _ _ c.args.place (length ts - (c.args.place + 1)) refl (omega arith) refl c.copy_from_slice.ensures.after c.copy_from_slice-2.ensures.after

@@ -15,13 +15,13 @@ use Rattle.store.specs.Books.{book_of}
 
 pub invariant_of-result : goal.invariant_of-result
 invariant_of-result c =
-    rw c.new.ensures (fresh_lawful c.created.result c.args.mark (length c.args.memory.now) c.idle.result c.created.ensures.bound c.idle.ensures.value c.idle.ensures.lawful)
+    rw c.new.ensures (fresh_lawful c.created.result c.args.mark (length c.args.memory.now) c.idle.result c.created.ensures.bound c.idle.ensures)
 
 pub returns : goal.returns
 returns c =
     let n = c.created.result in
     let mark = c.args.mark in
     let memory = length c.args.memory.now in
-    let shown = ap (view n waiting) c.new.ensures ∙ view_fresh n waiting 256 c.idle.result mark memory c.created.ensures.bound ∙ ap (λ r. fresh n r mark memory) c.idle.ensures.value ∙ ap (λ k. fresh k idle mark memory) c.created.ensures.value in
+    let shown = ap (view n waiting) c.new.ensures ∙ view_fresh n waiting 256 c.idle.result mark memory c.created.ensures.bound ∙ ap (λ p. fresh n (waiting p) mark memory) c.idle.ensures ∙ ap (λ k. fresh k idle mark memory) c.created.ensures.value in
     let made = ap book_of shown in
     record { value = made; shows = subst (λ b. Shows plain b begun) (sym made) (fresh_shows plain (new_terms c.args.jobs mark memory)) }

@@ -1,5 +1,5 @@
 use Rattle.std.proofs.Common.{ap, ◌∙◌}
-use Rattle.rows.specs.Waiting.{target_at}
+use Rattle.rows.specs.Waiting.{Waiting, target_at}
 use Rattle.rows.proofs.Reading.{item_is_target}
 use Rattle.store.proofs.store.questions.StoreTable.target.Goals as goal
 
@@ -7,4 +7,4 @@ pub returns : goal.returns
 returns c =
     c.copied.ensures
     ∙ item_is_target c.targets_of.result.now c.args.place c.get.result c.get.ensures.lookup
-    ∙ ap (λ ts. target_at ts c.args.place) c.targets_of.ensures
+    ∙ ap (λ ts. target_at ts c.args.place) (c.targets_of.ensures ∙ ap (λ (w : Waiting). w.targets) c.stored.ensures.value)
