@@ -2,7 +2,7 @@
 ghost use Rattle.std.specs.Prelude.{◌≡◌, ◌*◌, ◌≤◌, length, take, drop};
 ghost use Rattle.rows.specs.Law.{targets_max};
 ghost use Rattle.rows.specs.Waiting.{at};
-ghost use Rattle.chart.specs.Layout.{row_bytes};
+ghost use Rattle.chart.specs.Layout.{row_bytes, chart_max};
 ghost use Rattle.chart.specs.Writing.{bytes_of_row, bytes_of_rows, ReadsBack};
 
 use crate::bytes::{CHART_MAX, COUNT, NEED, ROW_BYTES, RowBytes, TARGETS};
@@ -14,6 +14,7 @@ use tables::Table;
 /// [`Chart::check`]: crate::Chart::check
 pub fn write_chart<T: Table>(table: &T, bytes: &mut [u8; CHART_MAX]) -> usize
     ensures len { result ≡ row_bytes * length (T.Table.rows table.now) }
+    ensures bound { result ≤ chart_max }
     ensures written { take result bytes.new ≡ bytes_of_rows (T.Table.rows table.now) }
     ensures rest { drop result bytes.new ≡ drop result bytes.old }
     ensures reads_back { ReadsBack (T.Table.rows table.now) (take result bytes.new) }

@@ -2,7 +2,7 @@
 use crate::names::{JOBS, name_of};
 use crate::trouble::Trouble;
 use book::{PlainRow, Snapshot};
-use chart::{Chart, ROW_BYTES};
+use chart::{CHART_MAX, Chart, write_chart};
 use reduction::{HELD, reduce};
 use std::io;
 
@@ -32,25 +32,12 @@ pub fn word(stuck: bool) -> &'static str {
     if stuck { "stuck" } else { "only slow" }
 }
 
-// The rows as the bytes of a chart.
-fn chart_bytes(seen: &Snapshot) -> [u8; JOBS * ROW_BYTES] {
-    let mut bytes = [0; JOBS * ROW_BYTES];
-    for (stored, row) in bytes.chunks_exact_mut(ROW_BYTES).zip(seen.rows()) {
-        stored[0] = row.need;
-        stored[1] = row.count;
-        let targets = row.targets.iter().take(row.count as usize);
-        for (byte, target) in stored[2..].iter_mut().zip(targets) {
-            *byte = *target;
-        }
-    }
-    bytes
-}
-
 // The jobs that wait, each with the word of the reduction, which reads the rows as a chart.
 pub fn waiting(rt: &HostRuntime, seen: &Snapshot) -> Result<(), Trouble> {
-    let bytes = chart_bytes(seen);
+    let mut bytes = [0; CHART_MAX];
+    let length = write_chart(seen, &mut bytes);
     let mut marks = [0; JOBS];
-    reduce(&Chart::new(&bytes), &mut marks)?;
+    reduce(&Chart::new(&bytes[..length]), &mut marks)?;
     for (job, mark) in marks.iter().enumerate() {
         if row_of(seen, job).need > 0 {
             let name = name_of(job);

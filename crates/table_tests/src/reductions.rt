@@ -1,6 +1,6 @@
 // Small tables, as books and as charts.
 use book::{Book, Old, PlainRow};
-use chart::{Chart, ROW_BYTES};
+use chart::{CHART_MAX, Chart, ROW_BYTES, write_chart};
 use reduction::reduce;
 use std::process::Abort;
 use tables::Table;
@@ -15,24 +15,6 @@ const UNTOUCHED: u8 = 9;
 type Row<'a> = (u8, &'a [u8]);
 
 const ACTIVE: Row<'static> = (0, &[]);
-
-// Writes a row as the bytes of a job in a chart.
-fn write(bytes: &mut [u8], row: Row) {
-    let (need, targets) = row;
-    let count = targets.len().min(16) as u8;
-    for (byte, value) in bytes.iter_mut().zip([need, count].iter().chain(targets)) {
-        *byte = *value;
-    }
-}
-
-// Writes the rows as a chart.
-fn charted(rows: &[Row; 4]) -> [u8; FOUR_JOBS] {
-    let mut bytes = [0; FOUR_JOBS];
-    for (job, row) in bytes.chunks_exact_mut(ROW_BYTES).zip(rows) {
-        write(job, *row);
-    }
-    bytes
-}
 
 // Makes the requests of the rows.
 fn requested(rt: &impl Abort, book: &mut Book, rows: &[Row; 4]) {
@@ -58,9 +40,10 @@ fn both(rt: &impl Abort, rows: &[Row; 4], expected: [u8; 5]) {
     }; 1];
     let mut book = Book::new(4, 7, &mut memory);
     requested(rt, &mut book, rows);
-    let bytes = charted(rows);
+    let mut bytes = [0; CHART_MAX];
+    let length = write_chart(&book, &mut bytes);
     assert_eq!(rt; reduced(rt, &book), expected);
-    assert_eq!(rt; reduced(rt, &Chart::new(&bytes)), expected);
+    assert_eq!(rt; reduced(rt, &Chart::new(&bytes[..length])), expected);
 }
 
 #[test]
