@@ -1,4 +1,4 @@
--- What a put into a container and a pop out of it mean for a carrier made of that container and a count.
+-- What a put into a container and a take out of it mean for a carrier made of that container and a count.
 use Rattle.std.proofs.Common.{◌≡◌, ℕ, ◌+◌, ◌%◌, ◌^◌, true, [], ◌∷◌, length, Some, sym, refl, ◌∙◌, add-one, arith}
 use Rattle.std.specs.List.Sorted.{IsPermutation}
 use Rattle.std.proofs.lemmas.Bool.Decides.{nat_tests}

@@ -1,14 +1,22 @@
 // A carrier made of a container of messages, whatever the container's order, and a count of those handed out.
-ghost use Rattle.std.specs.Prelude.{◌≡◌, length, is_ok, if◌then◌else◌};
+ghost use Rattle.std.specs.Prelude.{◌≡◌, length, is_ok, if◌then◌else◌, MatchOption};
 ghost use Rattle.containers.specs.Held.{with_last};
-ghost use Rattle.containers.specs.Taken.{Popped};
 ghost use Rattle.carriers.specs.Meaning.{Put, Took};
 ghost use Rattle.carriers.specs.Parts.{carried_from, carried_by, held_carried, container, picker_messages, picks_left, new_carrier};
 
 use crate::carrier::{Carrier, CarrierFull};
-use crate::message::Message;
+use crate::message::{Kind, Message, Wait};
 use crate::picked::Picked;
 use containers::{Container, Queue, Stack};
+
+// What lies in the place that the carrier lends, until a message is taken into it.
+const BLANK: Message = Message {
+    wait: Wait {
+        waiter: 0,
+        target: 0,
+    },
+    kind: Kind::Notify,
+};
 
 // The messages that wait, and how many were handed out, modulo 2^32.
 #[derive(Drop)]
@@ -82,12 +90,15 @@ impl<C: Container<Message>> Carrier for Counted<C> {
         Ok(())
     }
 
-    // The message comes that is next in the container's order.
+    /// The message comes that is next in the container's order; where none waits, the container stays as it is.
     fn take(&mut self) -> Option<Message>
         ensures took { Took (carried_by C.Container.held self.old) (carried_by C.Container.held self.new) result }
-        ensures order { Popped C.Container.held C.Container.gives result (container self.old) (container self.new) }
+        ensures order { MatchOption result (container self.new ≡ container self.old) (λ message. C.Container.gives (container self.old) message (container self.new)) }
     {
-        let message = self.messages.pop()?;
+        let mut message = BLANK;
+        if !self.messages.take(&mut message) {
+            return None;
+        }
         self.handed = self.handed.wrapping_add(1);
         Some(message)
     }

@@ -59,13 +59,13 @@ impl<'a, 'p> Container<Message> for Picked<'a, 'p> {
     }
 
     // The message at the picked place comes, and the pick is used up; where no message waits, none is.
-    fn pop(&mut self) -> Option<Message> {
+    fn take(&mut self, out: &mut Message) -> bool {
         let waiting = self.messages.len();
         if waiting == 0 {
-            return None;
+            return false;
         }
         let place = first_place(self.picks, waiting);
         self.picks = self.picks.get(1..).unwrap_or(&[]);
-        self.messages.remove(place)
+        self.messages.take_at(place, out)
     }
 }

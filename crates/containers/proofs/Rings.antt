@@ -103,16 +103,16 @@ head_further_drops_first h n cells d lt pos ln =
     ∙ ap (λ ys. first ∷ take (n - 1) ys) (sym (turned_one_further h cells d lt))
 
 -- The head goes to the next cell, round the end of the cells too: the record that it leaves was the first.
-pub pop_leaves_ring : {X : Type 0} (h n p : ℕ) (cells : List X) (d : X)
+pub take_leaves_ring : {X : Type 0} (h n p : ℕ) (cells : List X) (d : X)
     → h < length cells
     → 0 < n
     → n ≤ length cells
     → p < length cells
     → IsCellAfter (length cells) h 1 p
     → take n (turned h cells) ≡ get_or cells h d ∷ take (n - 1) (turned p cells)
-pop_leaves_ring h n p cells d lt pos ln lp (inl e) =
+take_leaves_ring h n p cells d lt pos ln lp (inl e) =
     rw e (head_further_drops_first h n cells d lt pos ln)
-pop_leaves_ring h n p cells d lt pos ln lp (inr e) =
+take_leaves_ring h n p cells d lt pos ln lp (inr e) =
     let first : p ≡ 0 = omega arith in
     let past : length cells ≤ h + 1 = omega arith in
     head_further_drops_first h n cells d lt pos ln

@@ -1,23 +1,17 @@
--- What a container gives, and what that leaves in it.
-use Rattle.std.specs.Prelude.{◌≡◌, ◌<◌, ◌≤◌, ℕ, Bool, true, false, Option, None, Some, [], length}
+-- A record is taken into a place that the caller lends, and the answer is yes or no.
+use Rattle.std.specs.Prelude.{◌≡◌, ◌<◌, ◌≤◌, ℕ, Bool, true, false, [], length}
 use Rattle.std.specs.List.{insert}
 use Rattle.containers.specs.Held.{Held}
 
 module _ {S T : Type 0} (held : S → Held T) (gives : S → T → S → Type 0) where
-  -- The record that comes, in the order that `gives` tells, and what it leaves; none comes where none is held, and nothing
-  -- changes.
-  abbrev pub Popped : Option T → (before after : S) → Type 0
-  Popped None before after = ((held before).items ≡ []) × (after ≡ before)
-  Popped (Some x) before after = gives before x after × ((held after).capacity ≡ (held before).capacity)
+  -- Yes: the record that comes, as `gives` tells, is in the lent place, and the container is what that leaves. No: none is held,
+  -- and neither the container nor the lent place has changed.
+  abbrev pub TookInto : (answer : Bool) → (before after : S) → (old new : T) → Type 0
+  TookInto true before after old new = gives before new after × ((held after).capacity ≡ (held before).capacity)
+  TookInto false before after old new = ((held before).items ≡ []) × (after ≡ before) × (new ≡ old)
 
-  -- The same into a lent place: where none comes, that is as before too.
-  abbrev pub TookInto : Bool → (before after : S) → (old new : T) → Type 0
-  TookInto true before after old new = Popped (Some new) before after
-  TookInto false before after old new = Popped None before after × (new ≡ old)
-
--- The record at a place goes, so that with it back at that place all are there again; past the last place none goes, and
--- nothing changes.
-abbrev pub Removed : {T : Type 0} → ℕ → Option T → (before after : Held T) → Type 0
-Removed place None before after = (length before.items ≤ place) × (after ≡ before)
-Removed place (Some x) before after =
-    (place < length before.items) × (before.items ≡ insert after.items place x) × (after.capacity ≡ before.capacity)
+-- The same from a place of the taker's choice. Yes: with the record back there, all are there again. No: that place is past the last.
+abbrev pub TookAt : {T : Type 0} → (place : ℕ) → (answer : Bool) → (before after : Held T) → (old new : T) → Type 0
+TookAt place true before after old new =
+    (place < length before.items) × (before.items ≡ insert after.items place new) × (after.capacity ≡ before.capacity)
+TookAt place false before after old new = (length before.items ≤ place) × (after ≡ before) × (new ≡ old)

@@ -2,7 +2,7 @@
 ghost use Rattle.std.specs.Prelude.{◌≡◌, ◌≤◌, ◌∷◌, length, is_ok, if◌then◌else◌};
 ghost use Rattle.std.specs.List.Sorted.{IsPermutation};
 ghost use Rattle.containers.specs.Held.{Held, has_room, with_last};
-ghost use Rattle.containers.specs.Taken.{Popped, TookInto};
+ghost use Rattle.containers.specs.Taken.{TookInto};
 
 // The refusal of a put: as many records are held as there is room for.
 #[derive(Clone, Copy, Drop, PartialEq, Eq, Debug)]
@@ -34,21 +34,10 @@ pub trait Container<T: Copy> {
         ensures after { held self.new ≡ (if is_ok result then with_last (held self.old) element else held self.old) }
         ensures beside { keeps self.old self.new };
 
-    // The record that comes next; an empty container gives none, and stays as it is.
-    fn pop(&mut self) -> Option<T>
-        ensures { Popped held gives result self.old self.new };
-
-    // The same into a lent place, a form that the rules fix; where none comes, it answers false, and that place stays as it
-    // is too.
+    /// Writes the record that comes next into `out`, and answers yes; an empty container answers no, and neither it nor `out`
+    /// changes.
     fn take(&mut self, out: &mut T) -> bool
-        ensures { TookInto held gives result self.old self.new out.old out.new }
-    {
-        let Some(element) = self.pop() else {
-            return false;
-        };
-        *out = element;
-        true
-    }
+        ensures { TookInto held gives result self.old self.new out.old out.new };
 
     // No record is lost: those held are the one that comes and those that it leaves.
     ghost loses_none: { (s : Self) (x : T) (t : Self) → gives s x t → IsPermutation (x ∷ (held t).items) (held s).items };

@@ -72,11 +72,14 @@ impl<'a, T: Copy> Container<T> for Queue<'a, T> {
     }
 
     // The oldest record comes.
-    fn pop(&mut self) -> Option<T> {
-        self.len = self.len.checked_sub(1)?;
-        let oldest = self.cells[self.head];
+    fn take(&mut self, out: &mut T) -> bool {
+        if self.len == 0 {
+            return false;
+        }
+        *out = self.cells[self.head];
         self.head = next_cell(self.head, self.cells.len());
-        Some(oldest)
+        self.len -= 1;
+        true
     }
 }
 

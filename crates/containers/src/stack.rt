@@ -2,7 +2,7 @@
 ghost use Rattle.std.specs.Prelude.{◌≡◌, ◌<◌, [], ◌∷◌, ◌++◌, length};
 ghost use Rattle.std.specs.List.{insert};
 ghost use Rattle.containers.specs.Held.{vacant, holding};
-ghost use Rattle.containers.specs.Taken.{Removed};
+ghost use Rattle.containers.specs.Taken.{TookAt};
 ghost use Rattle.containers.specs.Orders.{gives_newest, last_loses_none};
 
 use crate::container::{Container, Full};
@@ -35,18 +35,18 @@ impl<'a, T: Copy> Stack<'a, T> {
         Stack { cells, len: 0 }
     }
 
-    // Takes out the record at the place, the oldest being at place 0; the others keep their order. Past the last place there is
-    // none, and nothing changes.
-    pub fn remove(&mut self, place: usize) -> Option<T>
-        ensures { Removed place result self.old self.new }
+    /// Writes the record at `place` into `out`, the oldest record being at place 0, and answers yes; the others keep their order.
+    /// Past the last place it answers no, and neither the stack nor `out` changes.
+    pub fn take_at(&mut self, place: usize, out: &mut T) -> bool
+        ensures { TookAt place result self.old self.new out.old out.new }
     {
         if place >= self.len {
-            return None;
+            return false;
         }
-        let element = self.cells[place];
+        *out = self.cells[place];
         self.cells[place..self.len].rotate_left(1);
         self.len -= 1;
-        Some(element)
+        true
     }
 
     // Lets go of every record.
@@ -84,9 +84,13 @@ impl<'a, T: Copy> Container<T> for Stack<'a, T> {
     }
 
     // The newest record comes.
-    fn pop(&mut self) -> Option<T> {
-        self.len = self.len.checked_sub(1)?;
-        Some(self.cells[self.len])
+    fn take(&mut self, out: &mut T) -> bool {
+        if self.len == 0 {
+            return false;
+        }
+        self.len -= 1;
+        *out = self.cells[self.len];
+        true
     }
 }
 
@@ -125,10 +129,13 @@ mod tests {
             for record in 0..3 {
                 assert!(rt; stack.put(record).is_ok());
             }
-            let removed = if place < 3 { Some(place) } else { None };
-            assert!(rt; stack.remove(place) == removed);
+            let mut out = 7;
+            assert!(rt; stack.take_at(place, &mut out) == (place < 3));
+            let taken = if place < 3 { place } else { 7 };
+            assert_eq!(rt; out, taken);
             let newest = if place == 2 { 1 } else { 2 };
-            assert!(rt; stack.pop() == Some(newest));
+            assert!(rt; stack.take(&mut out));
+            assert_eq!(rt; out, newest);
         }
     }
 

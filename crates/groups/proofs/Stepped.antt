@@ -22,4 +22,4 @@ module _ {P : Type 0} where
       let d : drop start before.items ≡ drop start after.items ++ o' ∷ [] = ap (drop start) t.0 ∙ drop-append-le start after.items (o' ∷ []) n in
       let k : take start before.items ≡ take start after.items = ap (take start) t.0 ∙ take-append-le start after.items (o' ∷ []) n in
       (sym (ap (unwound rows) d ∙ unwound-++ rows (drop start after.items) (o' ∷ [])), sym k, t.1)
-  put_back rows before after false o o' start t l = absurd (omega (arith, ap length t.0.0))
+  put_back rows before after false o o' start t l = absurd (omega (arith, ap length t.0))

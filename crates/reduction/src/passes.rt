@@ -28,7 +28,8 @@ fn marks_of<T: Table>(table: &T) -> [u8; JOBS_MAX]
 {
     let mut cells = [0; JOBS_MAX];
     let mut marking = Marking::begin(table, Queue::new(&mut cells));
-    while let Some(job) = marking.queue.pop() {
+    let mut job = 0;
+    while marking.queue.take(&mut job) {
         marking.mark_waiters(job as usize);
     }
     marking.marks

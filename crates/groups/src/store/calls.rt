@@ -152,7 +152,6 @@ fn unwind<P: Copy>(rows: &mut [P; ROWS], trail: &mut Stack<'_, Old<P>>, start: u
         row: rows[0],
     };
     while trail.len() > start {
-        // A record that holds an array is taken into a lent place, as the rules want.
         let _ = trail.take(&mut old);
         rows[old.job as usize] = old.row;
     }

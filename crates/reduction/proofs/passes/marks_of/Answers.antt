@@ -5,5 +5,6 @@ use Rattle.reduction.proofs.passes.marks_of.Goals as goal
 
 pub returns : goal.returns
 returns g c =
-    let made = all_decided _ c.in_default.ensures.0 c.marking.invariant.0 (subst Settled (sym c.marking.view_is) c.loop-job.invariant.settled) in
-    subst (λ rows. Decided rows c.marking.inside.marks) (ap (λ m. m.rows) c.marking.view_is ∙ c.loop-job.invariant.rows) made
+    let none = rw c.loop-marking-test.false at c.take.ensures in
+    let made = all_decided _ none.0 c.marking.invariant.0 (subst Settled (sym c.marking.view_is) c.loop-marking.invariant.settled) in
+    subst (λ rows. Decided rows c.marking.inside.marks) (ap (λ m. m.rows) c.marking.view_is ∙ c.loop-marking.invariant.rows) made

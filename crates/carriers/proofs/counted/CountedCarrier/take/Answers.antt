@@ -5,6 +5,6 @@ use Rattle.carriers.proofs.counted.CountedCarrier.take.Goals as goal
 
 pub returns-clause-took : goal.returns-clause-took
 returns-clause-took g c =
-    let popped = c.in_ok-message.ensures in
+    let took = rw c.if-not-take.false at c.take.ensures in
     let loses_none = g.met.C.Container.loses_none in
     search (rules, took_one)

@@ -2,7 +2,7 @@
 use Rattle.std.proofs.Common.{rules}
 use Rattle.std.proofs.lemmas.List.{places}
 use Rattle.containers.proofs.Places.{turned_by_one_and_back}
-use Rattle.containers.proofs.stack.Stack.remove.Goals as goal
+use Rattle.containers.proofs.stack.Stack.take_at.Goals as goal
 
 pub returns : goal.returns
 returns g c =
