@@ -5,16 +5,16 @@ use Rattle.std.proofs.lemmas.Bool.{eq-eqb, lt-ltb}
 use Rattle.groups.specs.State.{face, innermost, noted, merged, old_row, opened}
 use Rattle.groups.proofs.Stepped.{same_state}
 use Rattle.histories.specs.Calls.{edits, opens, keeps, cancels}
-use Rattle.histories.specs.Rules.{Held, held, Rules, changed, says, after}
+use Rattle.histories.specs.Rules.{BookState, book_state, Rules, changed, says, after}
 use Rattle.histories.specs.Histories.{Called}
 use Rattle.histories.specs.Answers.{Answer, ticket, accepted, too_deep}
 
 module _ {P E K : Type 0} (R : Rules P E K) where
-  abbrev opening : Held P K → Held P K
-  opening s = held s.fixed (opened s.state)
+  abbrev opening : BookState P K → BookState P K
+  opening s = book_state s.fixed (opened s.state)
 
   -- what an opening that gives a ticket says of it, and does
-  ticket_given : (s : Held P K) (m d : ℕ) → ticket m d ≡ says R s opens → (m ≡ s.state.mark) × (d ≡ (face s.state).depth + 1) × (after R s opens ≡ opening s)
+  ticket_given : (s : BookState P K) (m d : ℕ) → ticket m d ≡ says R s opens → (m ≡ s.state.mark) × (d ≡ (face s.state).depth + 1) × (after R s opens ≡ opening s)
   ticket_given s m d e = go (ltb (face s.state).depth 8) e
     where
       go : (q : Bool) → ticket m d ≡ cond q (ticket s.state.mark ((face s.state).depth + 1)) too_deep → (m ≡ s.state.mark) × (d ≡ (face s.state).depth + 1) × (cond (accepted (cond q (ticket s.state.mark ((face s.state).depth + 1)) too_deep)) (opening s) s ≡ opening s)
@@ -22,14 +22,14 @@ module _ {P E K : Type 0} (R : Rules P E K) where
       go false h = absurd (cc h)
 
   -- an edit opens and ends no group
-  edited_depth : (s : Held P K) (e : E) → (face (after R (opening s) (edits e)).state).depth ≡ (face s.state).depth + 1
+  edited_depth : (s : BookState P K) (e : E) → (face (after R (opening s) (edits e)).state).depth ≡ (face s.state).depth + 1
   edited_depth s e = go (accepted (says R (opening s) (edits e)))
     where
       go : (q : Bool) → (face (cond q (changed R (opening s) (edits e)) (opening s)).state).depth ≡ (face s.state).depth + 1
       go true = omega arith
       go false = omega arith
 
-  edited_mark : (s : Held P K) (e : E) → (after R (opening s) (edits e)).state.mark ≡ s.state.mark
+  edited_mark : (s : BookState P K) (e : E) → (after R (opening s) (edits e)).state.mark ≡ s.state.mark
   edited_mark s e = go (accepted (says R (opening s) (edits e)))
     where
       go : (q : Bool) → (cond q (changed R (opening s) (edits e)) (opening s)).state.mark ≡ s.state.mark
@@ -37,18 +37,18 @@ module _ {P E K : Type 0} (R : Rules P E K) where
       go false = refl
 
   -- the ticket of the opening fits after the edit
-  fits_still : (s : Held P K) (e : E) (m d : ℕ) → m ≡ s.state.mark → d ≡ (face s.state).depth + 1 → innermost (after R (opening s) (edits e)).state.mark (face (after R (opening s) (edits e)).state) m d ≡ true
+  fits_still : (s : BookState P K) (e : E) (m d : ℕ) → m ≡ s.state.mark → d ≡ (face s.state).depth + 1 → innermost (after R (opening s) (edits e)).state.mark (face (after R (opening s) (edits e)).state) m d ≡ true
   fits_still s e m d p q =
       let a : eqb m (after R (opening s) (edits e)).state.mark ≡ true = eq-eqb _ _ (p ∙ sym (edited_mark s e)) in
       let b : eqb d (face (after R (opening s) (edits e)).state).depth ≡ true = eq-eqb _ _ (q ∙ sym (edited_depth s e)) in
       let c : ltb 0 d ≡ true = lt-ltb _ _ (omega (arith, q)) in
       rw (a, b, c)
 
-  cancelled_round : (s : Held P K) (e : E) (m d : ℕ) → m ≡ s.state.mark → d ≡ (face s.state).depth + 1 → after R (after R (opening s) (edits e)) (cancels m d) ≡ s
+  cancelled_round : (s : BookState P K) (e : E) (m d : ℕ) → m ≡ s.state.mark → d ≡ (face s.state).depth + 1 → after R (after R (opening s) (edits e)) (cancels m d) ≡ s
   cancelled_round s e m d p q = rw (fits_still s e m d p q) (go (accepted (says R (opening s) (edits e))))
     where
       go : (r : Bool) → changed R (cond r (changed R (opening s) (edits e)) (opening s)) (cancels m d) ≡ s
-      go true = ap (held s.fixed) (same_state (set-set s.state.rows (R.job_of e) _ _ ∙ set-get_or s.state.rows (R.job_of e) (R.next_row s.state.rows e)) refl refl refl)
+      go true = ap (book_state s.fixed) (same_state (set-set s.state.rows (R.job_of e) _ _ ∙ set-get_or s.state.rows (R.job_of e) (R.next_row s.state.rows e)) refl refl refl)
       go false = refl
 
   kept_groups : {X : Type 0} (gs : List (List X)) → merged ([] ∷ gs) ≡ gs
@@ -59,26 +59,26 @@ module _ {P E K : Type 0} (R : Rules P E K) where
   noted_groups [] x = refl
   noted_groups (g ∷ gs) x = refl
 
-  kept_round : (s : Held P K) (e : E) (m d : ℕ) → m ≡ s.state.mark → d ≡ (face s.state).depth + 1 → after R (after R (opening s) (edits e)) (keeps m d) ≡ cond (accepted (says R (opening s) (edits e))) (changed R s (edits e)) s
+  kept_round : (s : BookState P K) (e : E) (m d : ℕ) → m ≡ s.state.mark → d ≡ (face s.state).depth + 1 → after R (after R (opening s) (edits e)) (keeps m d) ≡ cond (accepted (says R (opening s) (edits e))) (changed R s (edits e)) s
   kept_round s e m d p q = rw (fits_still s e m d p q) (go (accepted (says R (opening s) (edits e))))
     where
       go : (r : Bool) → changed R (cond r (changed R (opening s) (edits e)) (opening s)) (keeps m d) ≡ cond r (changed R s (edits e)) s
-      go true = ap (held s.fixed) (same_state refl (noted_groups s.state.groups (old_row s.state.rows (R.job_of e) (R.next_row s.state.rows e))) refl refl)
-      go false = ap (held s.fixed) (same_state refl (kept_groups s.state.groups) refl refl)
+      go true = ap (book_state s.fixed) (same_state refl (noted_groups s.state.groups (old_row s.state.rows (R.job_of e) (R.next_row s.state.rows e))) refl refl)
+      go false = ap (book_state s.fixed) (same_state refl (kept_groups s.state.groups) refl refl)
 
   -- ---- from the promises of the calls: an opening that gives a ticket, and an edit
 
-  module _ {s s₁ s₂ : Held P K} {m d : ℕ} {e : E} {a : Answer} (first : Called R s opens (ticket m d) s₁) (second : Called R s₁ (edits e) a s₂) where
+  module _ {s s₁ s₂ : BookState P K} {m d : ℕ} {e : E} {a : Answer} (first : Called R s opens (ticket m d) s₁) (second : Called R s₁ (edits e) a s₂) where
     given : (m ≡ s.state.mark) × (d ≡ (face s.state).depth + 1) × (after R s opens ≡ opening s)
     given = ticket_given s m d first.value
 
     edited : s₂ ≡ after R (opening s) (edits e)
     edited = second.after ∙ ap (λ v. after R v (edits e)) (first.after ∙ given.2)
 
-    pub cancel_leaves : {b : Answer} {s₃ : Held P K} → Called R s₂ (cancels m d) b s₃ → s₃ ≡ s
+    pub cancel_leaves : {b : Answer} {s₃ : BookState P K} → Called R s₂ (cancels m d) b s₃ → s₃ ≡ s
     cancel_leaves third = third.after ∙ ap (λ v. after R v (cancels m d)) edited ∙ cancelled_round s e m d given.0 given.1
 
-    pub keep_leaves : {b : Answer} {s₃ : Held P K} → Called R s₂ (keeps m d) b s₃ → s₃ ≡ cond (accepted a) (changed R s (edits e)) s
+    pub keep_leaves : {b : Answer} {s₃ : BookState P K} → Called R s₂ (keeps m d) b s₃ → s₃ ≡ cond (accepted a) (changed R s (edits e)) s
     keep_leaves third =
         third.after
         ∙ ap (λ v. after R v (keeps m d)) edited

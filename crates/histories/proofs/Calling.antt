@@ -10,7 +10,7 @@ use Rattle.groups.specs.State.{State, Face, face, full, innermost, written, open
 use Rattle.histories.specs.Answers.{Answer, done, ticket, accepted, trail_full, too_deep, not_innermost}
 use Rattle.histories.specs.Calls.{Call, edits, opens, keeps, cancels, ends}
 use Rattle.histories.specs.Histories.{Called}
-use Rattle.histories.specs.Rules.{Held, held, Rules, says, changed}
+use Rattle.histories.specs.Rules.{BookState, book_state, Rules, says, changed}
 use Rattle.histories.specs.Told.{told_stub, told_return}
 use Rattle.histories.proofs.Following.{called}
 
@@ -28,7 +28,7 @@ end_told false k r e = ap told_return e
 
 module _ {Q E K : Type 0} (R : Rules Q E K) where
   -- a call that is accepted or refused by one test
-  by_test : (s t w : Held Q K) (c : Call E) (a taken refused : Answer) (q r : Bool) → says R s c ≡ cond q taken refused → accepted taken ≡ true → accepted refused ≡ false → q ≡ r → changed R s c ≡ w → a ≡ cond r taken refused → t ≡ cond r w s → Called R s c a t
+  by_test : (s t w : BookState Q K) (c : Call E) (a taken refused : Answer) (q r : Bool) → says R s c ≡ cond q taken refused → accepted taken ≡ true → accepted refused ≡ false → q ≡ r → changed R s c ≡ w → a ≡ cond r taken refused → t ≡ cond r w s → Called R s c a t
   by_test s t w c a taken refused true true e y n qr ch f g =
       called R s c a t (f ∙ sym e) (g ∙ sym ch ∙ ap (λ k. cond k (changed R s c) s) (sym (ap accepted e ∙ y)))
   by_test s t w c a taken refused false false e y n qr ch f g =
@@ -37,16 +37,16 @@ module _ {Q E K : Type 0} (R : Rules Q E K) where
   by_test s t w c a taken refused false true e y n qr ch f g = absurd (cc qr)
 
   -- a refused edit changes nothing
-  pub stopped_called : (s : Held Q K) (e : E) (a stop : Answer) → accepted stop ≡ false → a ≡ stop → stop ≡ says R s (edits e) → Called R s (edits e) a s
+  pub stopped_called : (s : BookState Q K) (e : E) (a stop : Answer) → accepted stop ≡ false → a ≡ stop → stop ≡ says R s (edits e) → Called R s (edits e) a s
   stopped_called s e a stop refused h p =
       called R s (edits e) a s (h ∙ p) (ap (λ k. cond k (changed R s (edits e)) s) (sym refused ∙ ap accepted p))
 
   -- an edit that passes its own checks is stopped by a full trail alone
-  pub edit_called : (s t : Held Q K) (e : E) (w : Q) (a : Answer) → w ≡ R.next_row s.state.rows e → says R s (edits e) ≡ cond (full s.state.room (face s.state)) trail_full done → a ≡ cond (full s.state.room (face s.state)) trail_full done → t ≡ cond (full s.state.room (face s.state)) s (held s.fixed (written s.state (R.job_of e) w)) → Called R s (edits e) a t
+  pub edit_called : (s t : BookState Q K) (e : E) (w : Q) (a : Answer) → w ≡ R.next_row s.state.rows e → says R s (edits e) ≡ cond (full s.state.room (face s.state)) trail_full done → a ≡ cond (full s.state.room (face s.state)) trail_full done → t ≡ cond (full s.state.room (face s.state)) s (book_state s.fixed (written s.state (R.job_of e) w)) → Called R s (edits e) a t
   edit_called s t e w a is p f g =
       called R s (edits e) a t (f ∙ sym p)
       (g
-      ∙ ap (λ v. cond (full s.state.room (face s.state)) s (held s.fixed (written s.state (R.job_of e) v))) is
+      ∙ ap (λ v. cond (full s.state.room (face s.state)) s (book_state s.fixed (written s.state (R.job_of e) v))) is
       ∙ go (full s.state.room (face s.state))
       ∙ ap (λ k. cond (accepted k) (changed R s (edits e)) s) (sym p))
     where
@@ -62,8 +62,8 @@ module _ {P : Type 0} (n : ℕ) {Q : Type 0} (f : P → Q) where
   fits_seen s t = ap (λ k. eqb t.mark s.mark && (eqb t.depth k && ltb 0 t.depth)) (view_depth n f s)
 
   -- a book of such rows
-  abbrev pub seen : {K : Type 0} → K → State P → Held Q K
-  seen fixed s = held fixed (view n f s)
+  abbrev pub seen : {K : Type 0} → K → State P → BookState Q K
+  seen fixed s = book_state fixed (view n f s)
 
   seen_if : {K : Type 0} (fixed : K) (q : Bool) (s t : State P) → seen fixed (cond q s t) ≡ cond q (seen fixed s) (seen fixed t)
   seen_if fixed true s t = refl
@@ -74,16 +74,16 @@ module _ {P : Type 0} (n : ℕ) {Q : Type 0} (f : P → Q) where
     open_called r e g =
         let d = view_depth n f s in
         let q = ltb (face s).depth 8 in
-        by_test R (seen fixed s) (seen fixed t) (held fixed (opened (view n f s))) opens _ (ticket s.mark ((face (view n f s)).depth + 1)) too_deep (ltb (face (view n f s)).depth 8) q refl refl refl (ap (λ k. ltb k 8) d) refl
+        by_test R (seen fixed s) (seen fixed t) (book_state fixed (opened (view n f s))) opens _ (ticket s.mark ((face (view n f s)).depth + 1)) too_deep (ltb (face (view n f s)).depth 8) q refl refl refl (ap (λ k. ltb k 8) d) refl
         (ap told_stub e ∙ open_told q s.mark (face s).depth (face (view n f s)).depth (sym d))
         (ap (seen fixed) g ∙ seen_if fixed q (opened s) s)
 
     pub end_called : n ≤ length s.rows → (e : Ending) (k : Stub) (r : Result (Unit {0}) Stub) → r ≡ cond (fits s k) (Ok tt) (Err k) → t ≡ cond (fits s k) (ended_as e s) s → Called R (seen fixed s) (ends e k.mark k.depth) (told_return r) (seen fixed t)
     end_called l Keep k r e g =
-        by_test R (seen fixed s) (seen fixed t) (seen fixed (kept s)) (keeps k.mark k.depth) _ done (not_innermost k.mark k.depth) _ (fits s k) refl refl refl (fits_seen s k) (ap (held fixed) (sym (view_kept n f s)))
+        by_test R (seen fixed s) (seen fixed t) (seen fixed (kept s)) (keeps k.mark k.depth) _ done (not_innermost k.mark k.depth) _ (fits s k) refl refl refl (fits_seen s k) (ap (book_state fixed) (sym (view_kept n f s)))
         (end_told (fits s k) k r e)
         (ap (seen fixed) g ∙ seen_if fixed (fits s k) (kept s) s)
     end_called l Cancel k r e g =
-        by_test R (seen fixed s) (seen fixed t) (seen fixed (cancelled s)) (cancels k.mark k.depth) _ done (not_innermost k.mark k.depth) _ (fits s k) refl refl refl (fits_seen s k) (ap (held fixed) (sym (view_cancelled n f s l)))
+        by_test R (seen fixed s) (seen fixed t) (seen fixed (cancelled s)) (cancels k.mark k.depth) _ done (not_innermost k.mark k.depth) _ (fits s k) refl refl refl (fits_seen s k) (ap (book_state fixed) (sym (view_cancelled n f s l)))
         (end_told (fits s k) k r e)
         (ap (seen fixed) g ∙ seen_if fixed (fits s k) (cancelled s) s)

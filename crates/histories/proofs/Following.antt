@@ -8,7 +8,7 @@ use Rattle.groups.proofs.Shown.{shows_face, write_shows, open_shows, keep_shows,
 use Rattle.groups.proofs.Viewed.{length-restored}
 use Rattle.histories.specs.Calls.{Call, edits, opens, keeps, cancels}
 use Rattle.histories.specs.Answers.{Answer, accepted}
-use Rattle.histories.specs.Rules.{Terms, Held, terms, Rules, fresh_book, answer, says, after, changed, changed_state}
+use Rattle.histories.specs.Rules.{Terms, BookState, terms, Rules, fresh_book, answer, says, after, changed, changed_state}
 use Rattle.histories.specs.Histories.{answers, listed, fed, depth_after, Shows, Follows, Called}
 
 -- how many groups are open after a call
@@ -27,7 +27,7 @@ length-outside (g ∷ gs) = omega arith
 
 module _ {P E K : Type 0} (R : Rules P E K) where
   -- no call changes the number of jobs
-  pub length-changed : (s : Held P K) (c : Call E) → length (changed R s c).state.rows ≡ length s.state.rows
+  pub length-changed : (s : BookState P K) (c : Call E) → length (changed R s c).state.rows ≡ length s.state.rows
   length-changed s (edits e) = length-set s.state.rows (R.job_of e) (R.next_row s.state.rows e)
   length-changed s opens = refl
   length-changed s (keeps mark depth) = refl
@@ -39,10 +39,10 @@ module _ {P E K : Type 0} (R : Rules P E K) where
   changed_shows first s (keeps mark depth) h w = keep_shows R.job_of R.next_row first s h w
   changed_shows first s (cancels mark depth) h w = cancel_shows R.job_of R.next_row first s h w
 
-  pub says_answers : (s : Held P K) (c : Call E) (h : History E) → Shows R s h → says R s c ≡ answers R (terms s) h c
+  pub says_answers : (s : BookState P K) (c : Call E) (h : History E) → Shows R s h → says R s c ≡ answers R (terms s) h c
   says_answers s c h w = ap (λ f. answer R (terms s) f c) (shows_face R.job_of R.next_row (replicate (length s.state.rows) R.idle) s.state h w)
 
-  pub after_shows : (s : Held P K) (c : Call E) (h : History E) → Shows R s h → Shows R (after R s c) (fed R (terms s) h c)
+  pub after_shows : (s : BookState P K) (c : Call E) (h : History E) → Shows R s h → Shows R (after R s c) (fed R (terms s) h c)
   after_shows s c h w = go (accepted (says R s c)) (accepted (answers R (terms s) h c)) (ap accepted (says_answers s c h w))
     where
       go : (a b : Bool) → a ≡ b → Shows R (cond a (changed R s c) s) (cond b (listed h c) h)
@@ -51,11 +51,11 @@ module _ {P E K : Type 0} (R : Rules P E K) where
       go true false e = absurd (cc e)
       go false true e = absurd (cc e)
 
-  follows : (s : Held P K) (c : Call E) (a : Answer) (s' : Held P K) → a ≡ says R s c → s' ≡ after R s c → Follows R s c a s'
+  follows : (s : BookState P K) (c : Call E) (a : Answer) (s' : BookState P K) → a ≡ says R s c → s' ≡ after R s c → Follows R s c a s'
   follows s c a s' e f h w = (e ∙ says_answers s c h w, subst (λ t. Shows R t (fed R (terms s) h c)) (sym f) (after_shows s c h w))
 
   -- no call changes the mark
-  mark_after : (s : Held P K) (c : Call E) → (after R s c).state.mark ≡ s.state.mark
+  mark_after : (s : BookState P K) (c : Call E) → (after R s c).state.mark ≡ s.state.mark
   mark_after s c = go c (accepted (says R s c))
     where
       go : (c : Call E) (q : Bool) → (cond q (changed R s c) s).state.mark ≡ s.state.mark
@@ -65,7 +65,7 @@ module _ {P E K : Type 0} (R : Rules P E K) where
       go (keeps mark depth) true = refl
       go (cancels mark depth) true = refl
 
-  depth_so : (s : Held P K) (c : Call E) (q : Bool) → length (cond q (changed R s c) s).state.groups ≡ depth_after c q (length s.state.groups)
+  depth_so : (s : BookState P K) (c : Call E) (q : Bool) → length (cond q (changed R s c) s).state.groups ≡ depth_after c q (length s.state.groups)
   depth_so s (edits e) true = length-noted s.state.groups (old_row s.state.rows (R.job_of e) (R.next_row s.state.rows e))
   depth_so s (edits e) false = refl
   depth_so s opens true = omega arith
@@ -75,13 +75,13 @@ module _ {P E K : Type 0} (R : Rules P E K) where
   depth_so s (cancels mark depth) true = length-outside s.state.groups
   depth_so s (cancels mark depth) false = refl
 
-  pub called : (s : Held P K) (c : Call E) (a : Answer) (s' : Held P K) → a ≡ says R s c → s' ≡ after R s c → Called R s c a s'
+  pub called : (s : BookState P K) (c : Call E) (a : Answer) (s' : BookState P K) → a ≡ says R s c → s' ≡ after R s c → Called R s c a s'
   called s c a s' e f = record {
     value = e;
     after = f;
     shows = follows s c a s' e f;
-    mark = ap (λ (t : Held P K). t.state.mark) f ∙ mark_after s c;
-    depth = ap (λ (t : Held P K). length t.state.groups) f ∙ depth_so s c (accepted (says R s c)) ∙ ap (λ q. depth_after c q (length s.state.groups)) (sym (ap accepted e));
+    mark = ap (λ (t : BookState P K). t.state.mark) f ∙ mark_after s c;
+    depth = ap (λ (t : BookState P K). length t.state.groups) f ∙ depth_so s c (accepted (says R s c)) ∙ ap (λ q. depth_after c q (length s.state.groups)) (sym (ap accepted e));
   }
 
   -- a new book shows the history in which nothing has happened

@@ -7,20 +7,20 @@ use Rattle.groups.specs.State.{face}
 use Rattle.groups.proofs.Shown.{shows_face}
 use Rattle.histories.specs.Answers.{accepted}
 use Rattle.histories.specs.Calls.{Call, edits, opens, keeps, cancels, ends}
-use Rattle.histories.specs.Rules.{Terms, Held, terms, Rules, fresh_book, says, after, changed}
+use Rattle.histories.specs.Rules.{Terms, BookState, terms, Rules, fresh_book, says, after, changed}
 use Rattle.histories.specs.Histories.{face_of, answers, fed, Shows}
 use Rattle.histories.specs.Subjects.{of_book, of_history, view_of}
 use Rattle.histories.proofs.Following.{length-changed, says_answers, after_shows, fresh_shows}
 
 module _ {P E K : Type 0} (R : Rules P E K) where
   -- no call changes what creation was told
-  terms_changed : (s : Held P K) (c : Call E) → terms (changed R s c) ≡ terms s
+  terms_changed : (s : BookState P K) (c : Call E) → terms (changed R s c) ≡ terms s
   terms_changed s (edits e) = ap (λ n. record { jobs = n; mark = s.state.mark; room = s.state.room; fixed = s.fixed }) (length-changed R s (edits e))
   terms_changed s opens = refl
   terms_changed s (keeps mark depth) = refl
   terms_changed s (cancels mark depth) = ap (λ n. record { jobs = n; mark = s.state.mark; room = s.state.room; fixed = s.fixed }) (length-changed R s (cancels mark depth))
 
-  terms_after : (s : Held P K) (c : Call E) → terms (after R s c) ≡ terms s
+  terms_after : (s : BookState P K) (c : Call E) → terms (after R s c) ≡ terms s
   terms_after s c = go (accepted (says R s c))
     where
       go : (q : Bool) → terms (cond q (changed R s c) s) ≡ terms s
@@ -28,11 +28,11 @@ module _ {P E K : Type 0} (R : Rules P E K) where
       go false = refl
 
   -- A book of these terms that shows a history.
-  pub record Stands (t : Terms K) (s : Held P K) (h : History E) : Type 0 where
+  pub record Stands (t : Terms K) (s : BookState P K) (h : History E) : Type 0 where
     pub told : terms s ≡ t
     pub shows : Shows R s h
 
-  module _ (t : Terms K) {s : Held P K} {h : History E} (w : Stands t s h) where
+  module _ (t : Terms K) {s : BookState P K} {h : History E} (w : Stands t s h) where
     pub same_face : face s.state ≡ face_of R t h
     same_face = shows_face R.job_of R.next_row (replicate (length s.state.rows) R.idle) s.state h w.shows ∙ ap (λ u. face_of R u h) w.told
 

@@ -5,7 +5,7 @@ use Rattle.groups.specs.History.{History, join, nest, merge, forget, history_fac
 use Rattle.groups.specs.Shows.{ShowsFrom}
 use Rattle.histories.specs.Answers.{Answer, accepted}
 use Rattle.histories.specs.Calls.{Call, edits, opens, keeps, cancels}
-use Rattle.histories.specs.Rules.{Terms, Held, terms, Rules, answer, says, after}
+use Rattle.histories.specs.Rules.{Terms, BookState, terms, Rules, answer, says, after}
 
 -- What an accepted call does to the lists.
 abbrev pub listed : {E : Type 0} → History E → Call E → History E
@@ -35,16 +35,16 @@ module _ {P E K : Type 0} (R : Rules P E K) where
   fed t h c = cond (accepted (answers t h c)) (listed h c) h
 
   -- A book shows a history: same rows, same depth, and what the trail would undo.
-  abbrev pub Shows : Held P K → History E → Type 0
+  abbrev pub Shows : BookState P K → History E → Type 0
   Shows s h = ShowsFrom R.job_of R.next_row (replicate (length s.state.rows) R.idle) s.state h
 
   -- Whatever history the book shows before a call: it answers as that history, and shows that history fed the call after.
-  abbrev pub Follows : Held P K → Call E → Answer → Held P K → Type 0
+  abbrev pub Follows : BookState P K → Call E → Answer → BookState P K → Type 0
   Follows s c a s' = (h : History E) → Shows s h → (a ≡ answers (terms s) h c) × Shows s' (fed (terms s) h c)
 
   -- A call made on a book, with its answer: it answers and changes the book by the rules, and so follows its history. What tickets
   -- go by stands by itself: the mark, which stays, and how many groups are open.
-  pub record Called (s : Held P K) (c : Call E) (a : Answer) (s' : Held P K) : Type 0 where
+  pub record Called (s : BookState P K) (c : Call E) (a : Answer) (s' : BookState P K) : Type 0 where
     pub value : a ≡ says R s c
     pub after : s' ≡ after R s c
     pub shows : Follows s c a s'

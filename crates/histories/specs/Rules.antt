@@ -14,20 +14,20 @@ pub record Terms (K : Type 0) : Type 0 where
   pub fixed : K
 
 -- A book: what its kind has fixed, and its rows under groups, which know its mark and its trail.
-pub record Held (P K : Type 0) : Type 0 where
+pub record BookState (P K : Type 0) : Type 0 where
   pub fixed : K
   pub state : State P
 
 -- A book of these.
-abbrev pub held : {P K : Type 0} → K → State P → Held P K
-held k s = record { fixed = k; state = s }
+abbrev pub book_state : {P K : Type 0} → K → State P → BookState P K
+book_state k s = record { fixed = k; state = s }
 
 -- All that the creation of a book has fixed.
-abbrev pub terms : {P K : Type 0} → Held P K → Terms K
+abbrev pub terms : {P K : Type 0} → BookState P K → Terms K
 terms b = record { jobs = length b.state.rows; mark = b.state.mark; room = b.state.room; fixed = b.fixed }
 
 -- The same mark, and as many groups open: a ticket fits after as it did before.
-abbrev pub SameGroups : {P K : Type 0} → Held P K → Held P K → Type 0
+abbrev pub SameGroups : {P K : Type 0} → BookState P K → BookState P K → Type 0
 SameGroups b b' = (b'.state.mark ≡ b.state.mark) × (length b'.state.groups ≡ length b.state.groups)
 
 -- A kind of book, of rows P and edits E, whose creation fixes K: the row that every job has at first; the job whose row an edit writes; the
@@ -42,8 +42,8 @@ pub record Rules (P E K : Type 0) : Type 0 where
 
 module _ {P E K : Type 0} (R : Rules P E K) where
   -- A new book of these terms: every job has the first row, and no group is open.
-  abbrev pub fresh_book : Terms K → Held P K
-  fresh_book t = held t.fixed (record { rows = replicate t.jobs R.idle; groups = []; mark = t.mark; room = t.room })
+  abbrev pub fresh_book : Terms K → BookState P K
+  fresh_book t = book_state t.fixed (record { rows = replicate t.jobs R.idle; groups = []; mark = t.mark; room = t.room })
 
   -- What an accepted call makes of the rows and groups.
   abbrev pub changed_state : State P → Call E → State P
@@ -53,8 +53,8 @@ module _ {P E K : Type 0} (R : Rules P E K) where
   changed_state s (cancels mark depth) = cancelled s
 
   -- And of the book; what is fixed stays.
-  abbrev pub changed : Held P K → Call E → Held P K
-  changed b c = held b.fixed (changed_state b.state c)
+  abbrev pub changed : BookState P K → Call E → BookState P K
+  changed b c = book_state b.fixed (changed_state b.state c)
 
   -- The check of an ending: 9, with its ticket.
   abbrev pub ending_answer : Terms K → Face P → (mark depth : ℕ) → Answer
@@ -68,9 +68,9 @@ module _ {P E K : Type 0} (R : Rules P E K) where
   answer t f (cancels mark depth) = ending_answer t f mark depth
 
   -- What a book answers to a call.
-  abbrev pub says : Held P K → Call E → Answer
+  abbrev pub says : BookState P K → Call E → Answer
   says b c = answer (terms b) (face b.state) c
 
   -- What it is afterwards: changed where the call is accepted, and else as before.
-  abbrev pub after : Held P K → Call E → Held P K
+  abbrev pub after : BookState P K → Call E → BookState P K
   after b c = cond (accepted (says b c)) (changed b c) b

@@ -3,7 +3,7 @@ use Rattle.std.specs.Prelude.{ℕ, List, length}
 use Rattle.groups.specs.History.{History}
 use Rattle.histories.specs.Answers.{Answer}
 use Rattle.histories.specs.Calls.{Call}
-use Rattle.histories.specs.Rules.{Terms, Held, Rules, says, after}
+use Rattle.histories.specs.Rules.{Terms, BookState, Rules, says, after}
 use Rattle.histories.specs.Histories.{face_of, answers, fed}
 
 -- What a subject answers to a call, what it is afterwards, and what can be seen of it; and the mark of its tickets.
@@ -25,7 +25,7 @@ view_of S x = record { rows = S.rows x; depth = S.depth x }
 
 module _ {P E K : Type 0} (R : Rules P E K) where
   -- A book.
-  abbrev pub of_book : Subject P E (Held P K)
+  abbrev pub of_book : Subject P E (BookState P K)
   of_book = record {
     mark = λ b. b.state.mark;
     says = says R;

@@ -21,7 +21,7 @@ use Rattle.store.specs.declared.fault.BookFault.TheVariants.{NoSuchJob, Blocked,
 use Rattle.store.specs.Faults.{of_row}
 use Rattle.store.specs.Calls.{Edit, requests, grants}
 use Rattle.histories.specs.Calls.{edits, opens}
-use Rattle.histories.specs.Rules.{says, held}
+use Rattle.histories.specs.Rules.{says, book_state}
 use Rattle.histories.specs.Answers.{Answer, done}
 use Rattle.store.specs.Answers.{refusal, refused_at}
 use Rattle.store.specs.Views.{told, told_stub}
@@ -130,7 +130,7 @@ module _ (s : PlainBook) (n : ℕ) (jobs : n ≡ length s.state.rows) where
         stopped_called plain s (requests job need targets) (told r) (refusal (of_row e)) refl (carried_fault r (of_row e) h)
         (sym (request_says l b ∙ ap (λ k. stop_of k (cond (full s.state.room (face s.state)) (refusal TrailFull) done)) (sym f)))
 
-    pub request_called : job < n → (at s.state.rows job).need ≤ 0 → (w : Waiting) (a : Answer) (t : PlainBook) → Ok w ≡ requested n job need targets → a ≡ cond (full s.state.room (face s.state)) (refusal TrailFull) done → t ≡ cond (full s.state.room (face s.state)) s (held s.fixed (written s.state job w)) → Called plain s (edits (requests job need targets)) a t
+    pub request_called : job < n → (at s.state.rows job).need ≤ 0 → (w : Waiting) (a : Answer) (t : PlainBook) → Ok w ≡ requested n job need targets → a ≡ cond (full s.state.room (face s.state)) (refusal TrailFull) done → t ≡ cond (full s.state.room (face s.state)) s (book_state s.fixed (written s.state job w)) → Called plain s (edits (requests job need targets)) a t
     request_called l b w a t f g h =
         edit_called plain s t (requests job need targets) w a
         (sym (placed_is (wrong_counts need (length targets)) (first_wrong n job 0 0 targets) (record { need = need; targets = targets }) w (sym f)))
@@ -164,7 +164,7 @@ module _ (s : PlainBook) (n : ℕ) (jobs : n ≡ length s.state.rows) where
         (sym (grant_says l m b ∙ ap (λ q. cond (not q) (refusal NoSuchWait) (cond (full s.state.room (face s.state)) (refusal TrailFull) done)) (grant_none granter (at s.state.rows waiter) f)))
     no_wait l m b (Some w) e r f g h = absurd (cc g)
 
-    pub grant_called : granter < n → waiter < n → (at s.state.rows granter).need ≤ 0 → (w : Waiting) (a : Answer) (t : PlainBook) → Some w ≡ granted_by granter (at s.state.rows waiter) → a ≡ cond (full s.state.room (face s.state)) (refusal TrailFull) done → t ≡ cond (full s.state.room (face s.state)) s (held s.fixed (written s.state waiter w)) → Called plain s (edits (grants granter waiter)) a t
+    pub grant_called : granter < n → waiter < n → (at s.state.rows granter).need ≤ 0 → (w : Waiting) (a : Answer) (t : PlainBook) → Some w ≡ granted_by granter (at s.state.rows waiter) → a ≡ cond (full s.state.room (face s.state)) (refusal TrailFull) done → t ≡ cond (full s.state.room (face s.state)) s (book_state s.fixed (written s.state waiter w)) → Called plain s (edits (grants granter waiter)) a t
     grant_called l m b w a t e g h =
         let some = grant_some granter (at s.state.rows waiter) w e in
         edit_called plain s t (grants granter waiter) w a some.1

@@ -1,7 +1,7 @@
 -- A plain book, as clauses see it.
 use Rattle.rows.specs.Waiting.{Waiting}
 use Rattle.groups.specs.State.{State}
-use Rattle.histories.specs.Rules.{Held, held}
+use Rattle.histories.specs.Rules.{BookState, book_state}
 
 -- What creation fixes of a plain book besides its size, its mark and its trail, as limits: nothing.
 abbrev pub Fixed : Type 0
@@ -9,8 +9,8 @@ Fixed = Unit {0}
 
 -- What is fixed, and the rows of its jobs under groups.
 abbrev pub PlainBook : Type 0
-PlainBook = Held Waiting Fixed
+PlainBook = BookState Waiting Fixed
 
 -- The book of these rows and groups.
 abbrev pub book_of : State Waiting → PlainBook
-book_of s = held tt s
+book_of s = book_state tt s

@@ -14,7 +14,7 @@ ghost use Rattle.store.specs.Creation.{created, new_book};
 ghost use Rattle.tables.specs.Tables.{jobs_max};
 ghost use Rattle.store.specs.Views.{told, told_stub, told_ending_by, edit_of};
 ghost use Rattle.store.specs.Plain.{plain};
-ghost use Rattle.histories.specs.Rules.{held, says, after};
+ghost use Rattle.histories.specs.Rules.{book_state, says, after};
 
 use crate::calls::Edit;
 use crate::fault::{BookFault, RefusedStub};
@@ -83,7 +83,7 @@ impl<'a> Store<'a> {
         requires job { job < length self.old.state.rows }
         requires lawful { row_fits (length self.old.state.rows) job (waiting_of row) ≡ true }
         ensures value { told result ≡ (if full self.old.state.room (face self.old.state) then refusal TrailFull else done) }
-        ensures after { self.new ≡ (if full self.old.state.room (face self.old.state) then self.old else held self.old.fixed (written self.old.state job (waiting_of row))) }
+        ensures after { self.new ≡ (if full self.old.state.room (face self.old.state) then self.old else book_state self.old.fixed (written self.old.state job (waiting_of row))) }
     {
         Ok(self.groups.write(job as u8, row.into())?)
     }
