@@ -11,7 +11,8 @@ use Rattle.scripts.specs.Events.{RunsOnBook, RunsOnHistory}
 use Rattle.store.specs.Plain.{plain}
 use Rattle.store.specs.Books.{PlainBook}
 
--- Whatever happens to a plain book, scripts among it, happens to the history that is told the same at creation.
+-- Whatever happens to a plain book, scripts among it, happens to the history that is told the same at creation. Of a script the history is
+-- fed the calls that it counts as.
 abbrev pub LawOfPlainBooks : Type 0
 LawOfPlainBooks = LawOfLives plain RunsOnBook RunsOnHistory
 

@@ -12,6 +12,7 @@ ghost use Rattle.histories.specs.Histories.{Called, Shows};
 ghost use Rattle.histories.specs.Subjects.{of_book, view_of};
 ghost use Rattle.store.specs.Snapshots.{snapshot_view};
 ghost use Rattle.scripts.specs.Lent.{lent};
+ghost use Rattle.scripts.specs.ScriptCalls.{CountsAs};
 ghost use Rattle.scripts.specs.ScriptRuns.{RanScript, script_written};
 ghost use Rattle.histories.specs.Rules.{SameGroups};
 
@@ -124,8 +125,10 @@ impl<'a> Book<'a> {
         self.store.depth()
     }
 
-    // Runs a script. Detections use the records and the carrier, and write their answers to the bytes, one behind the other. At the
-    // end, and after a fault, the groups that the script has left open are cancelled.
+    /// Runs a script: its commands one after the other, to its end or to the first fault. Detections use the records and the carrier,
+    /// and write four answer bytes each, one behind the other. At the end, and after a fault, the groups that the script has left open
+    /// are cancelled, the innermost first; what was done outside of them stays. `StoppedScript` tells the fault, which command it
+    /// stopped, and where this begins; a script of more than 8,192 bytes is not begun. For the book a script is the calls that it counts as.
     pub fn run_script<C: Carrier>(
         &mut self,
         script: &[u8],
@@ -134,6 +137,7 @@ impl<'a> Book<'a> {
         answers: &mut [u8],
     ) -> Result<FinishedScript, StoppedScript>
         ensures ran { RanScript self.old (lent records.old (C.Carrier.carried carrier.old) answers.old) script.now result self.new (lent records.new (C.Carrier.carried carrier.new) answers.new) }
+        ensures counts { CountsAs (of_book plain) self.old script.now result self.new }
         ensures written { script_written result ≤ length answers.new }
         ensures groups { SameGroups self.old self.new }
     {

@@ -8,6 +8,7 @@ use Rattle.lives.specs.Events.{Event, special, Does, Life}
 use Rattle.store.specs.Calls.{Edit}
 use Rattle.scripts.specs.Lent.{Lent}
 use Rattle.store.specs.Plain.{plain}
+use Rattle.scripts.specs.ScriptCalls.{CountsAs}
 use Rattle.scripts.specs.Scripts.{Scripted}
 use Rattle.scripts.specs.declared.fault.StoppedScript.{StoppedScript}
 use Rattle.scripts.specs.declared.fault.FinishedScript.{FinishedScript}
@@ -24,12 +25,14 @@ pub record ScriptRun : Type 0 where
 abbrev pub Runs : {X : Type 0} → Subject Waiting Edit X → X → ScriptRun → X → Type 0
 Runs S x r y = Scripted S x r.before r.script r.answer y r.after
 
--- To a book, and to a history.
+-- To a book.
 abbrev pub RunsOnBook : PlainBook → ScriptRun → PlainBook → Type 0
 RunsOnBook = Runs (of_book plain)
 
-abbrev pub RunsOnHistory : Terms Fixed → History Edit → ScriptRun → History Edit → Type 0
-RunsOnHistory t = Runs (of_history plain t)
+-- To a history, which is then fed the calls that the script counts as.
+pub record RunsOnHistory (t : Terms Fixed) (h : History Edit) (r : ScriptRun) (i : History Edit) : Type 0 where
+  pub does : Runs (of_history plain t) h r i
+  pub counts : CountsAs (of_history plain t) h r.script r.answer i
 
 -- What happens to a plain book.
 abbrev pub BookEvent : Type 0

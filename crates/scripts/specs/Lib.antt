@@ -5,5 +5,6 @@ pub mod ScriptFaults
 pub mod Scripts
 pub mod Reading
 pub mod Working
+pub mod ScriptCalls
 pub mod ScriptRuns
 pub mod Events

@@ -1,6 +1,7 @@
 // Running a script.
 ghost use Rattle.std.specs.Prelude.{◌≡◌, ◌≤◌, ◌-◌, length};
 ghost use Rattle.scripts.specs.Scripts.{cancel_groups as cancelling};
+ghost use Rattle.scripts.specs.ScriptCalls.{CountsAs};
 ghost use Rattle.scripts.specs.ScriptRuns.{RanScript, script_written};
 ghost use Rattle.scripts.specs.Lent.{lent};
 ghost use Rattle.histories.specs.Subjects.{of_book};
@@ -15,11 +16,13 @@ use detection::RunRecord;
 use groups::Ending;
 use store::Store;
 
-// How many bytes a script has at most.
+/// How many bytes a script has at most.
 pub const SCRIPT_MAX: usize = 8192;
 
-// Runs a script. Detections use the records and the carrier, and write their answers to the bytes, one behind the other. At the
-// end, and after a fault, the groups that the script has left open are cancelled.
+/// Runs a script: its commands one after the other, to its end or to the first fault. Detections use the records and the carrier, and
+/// write four answer bytes each, one behind the other. At the end, and after a fault, the groups that the script has left open are
+/// cancelled, the innermost first; what was done outside of them stays. `StoppedScript` tells the fault, which command it stopped, and
+/// where this begins; a script of more than 8,192 bytes is not begun. For the store a script is the calls that it counts as.
 pub fn run_script<C: Carrier>(
     store: &mut Store<'_>,
     script: &[u8],
@@ -28,6 +31,7 @@ pub fn run_script<C: Carrier>(
     answers: &mut [u8],
 ) -> Result<FinishedScript, StoppedScript>
     ensures ran { RanScript store.old (lent records.old (C.Carrier.carried carrier.old) answers.old) script.now result store.new (lent records.new (C.Carrier.carried carrier.new) answers.new) }
+    ensures counts { CountsAs (of_book plain) store.old script.now result store.new }
     ensures written { script_written result ≤ length answers.new }
     ensures groups { SameGroups store.old store.new }
 {

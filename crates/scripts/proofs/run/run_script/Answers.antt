@@ -1,5 +1,6 @@
 use Rattle.std.proofs.Common.{refl, Some, None}
 use Rattle.scripts.specs.Working.{far}
+use Rattle.scripts.proofs.ScriptCalls.{ran_counts}
 use Rattle.scripts.proofs.Simulated.{worked_ran}
 use Rattle.scripts.proofs.run.run_script.Goals as goal
 
@@ -28,3 +29,9 @@ returns-in-Err-clause-ran g c =
       leaves = c.cancel_groups.ensures.value;
       lends = refl;
     })
+
+pub returns-in-Ok-clause-counts : goal.returns-in-Ok-clause-counts
+returns-in-Ok-clause-counts g c = ran_counts (returns-in-Ok-clause-ran g c)
+
+pub returns-in-Err-clause-counts : goal.returns-in-Err-clause-counts
+returns-in-Err-clause-counts g c = ran_counts (returns-in-Err-clause-ran g c)
