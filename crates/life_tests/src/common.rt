@@ -84,13 +84,9 @@ pub fn stopped(fault: ScriptFault, offset: usize, index: usize, written: usize) 
     }))
 }
 
-// What creation takes here.
-pub fn creation(jobs: usize, trail: &mut [Old<PlainRow>]) -> Creation<'_> {
-    Creation {
-        jobs,
-        mark: MARK,
-        trail,
-    }
+// What creation takes here, besides a trail.
+pub fn creation(jobs: usize) -> Creation {
+    Creation { jobs, mark: MARK }
 }
 
 // Memory for a trail of N old rows.

@@ -71,7 +71,8 @@ fn lives<C: Carrier>(rt: &impl Abort, carrier: &mut C) {
     let mut moments = [Moment::blank(); 20];
     let steps = steps();
     let lived = live(
-        creation(3, &mut trail),
+        creation(3),
+        &mut trail,
         &steps.map(|step| step.0),
         &mut records,
         carrier,

@@ -25,7 +25,8 @@ fn bytes_stand_one_behind_the_other(rt: HostRuntime) {
     let mut answers = [UNTOUCHED; 11];
     let mut moments = [Moment::blank(); 6];
     let lived = live(
-        creation(2, &mut trail),
+        creation(2),
+        &mut trail,
         &steps.map(|step| step.0),
         &mut records,
         &mut QueueCarrier::new(&mut cells),
@@ -58,7 +59,8 @@ fn book_without_jobs(rt: HostRuntime) {
         let mut answers = [UNTOUCHED; 4];
         let mut moments = [Moment::blank(); 6];
         let lived = live(
-            creation(jobs, &mut trail),
+            creation(jobs),
+            &mut trail,
             &steps.map(|step| step.0),
             &mut [],
             &mut QueueCarrier::new(&mut cells),
@@ -90,7 +92,8 @@ fn moments_are_as_many_as_calls(rt: HostRuntime) {
         let mut answers = [UNTOUCHED; 4];
         let mut moments = [Moment { answer: mark, seen }; 3];
         let lived = live(
-            creation(2, &mut trail),
+            creation(2),
+            &mut trail,
             &calls,
             &mut records,
             &mut carrier,

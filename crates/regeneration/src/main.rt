@@ -58,8 +58,8 @@ fn live_over<C: Carrier>(calls: &[Call<'_>], carrier: &mut C) -> Result<Lived, T
         Creation {
             jobs: JOBS,
             mark: MARK,
-            trail: &mut trail,
         },
+        &mut trail,
         calls,
         &mut records,
         carrier,

@@ -1,5 +1,6 @@
 -- What the reader of a script tells of the bytes unread.
 use Rattle.std.specs.Prelude.{◌≡◌, ℕ, ◌+◌, ◌-◌, ◌<◌, ◌≤◌, List, [], ◌∷◌, length, take, drop, Some, MatchResult, Result}
+use Rattle.std.specs.Borrow.{MutBor}
 use Rattle.scripts.specs.Commands.{Command, makes, opening, ending, detecting, Head, whole}
 use Rattle.scripts.specs.Scripts.{unreadable}
 use Rattle.store.specs.Views.{edit_of}
@@ -7,6 +8,10 @@ use Rattle.scripts.specs.declared.command.Command.{Command as Told}
 use Rattle.scripts.specs.declared.command.Command.TheVariants.{Open, End, Detect, Edit}
 use Rattle.scripts.specs.declared.fault.ScriptFault.{ScriptFault}
 use Rattle.scripts.specs.declared.fault.ScriptFault.TheVariants.{CutOff}
+
+-- Where the reader stands when the guard over its place is gone: what the guard's first field, which is the place, then points to.
+abbrev pub place_left : {Rest : Type 0} → MutBor ℕ × Rest → ℕ
+place_left left = left.0.now
 
 -- The command that is told.
 abbrev pub command_of : Told → Command

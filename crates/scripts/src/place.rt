@@ -1,5 +1,6 @@
 // The reader's place in a script, and a guard over it.
 ghost use Rattle.std.specs.Prelude.{◌≡◌, if◌then◌else◌};
+ghost use Rattle.scripts.specs.Reading.{place_left};
 
 // Puts the reader back to where it stood first, unless the command that it has read since is accepted.
 pub struct PlaceGuard<'p> {
@@ -10,7 +11,7 @@ pub struct PlaceGuard<'p> {
 
 impl Drop for PlaceGuard<'_> {
     fn drop(self)
-        ensures { self.exit.0.now ≡ (if self.entry.accepted then self.entry.place.now else self.entry.first) }
+        ensures { place_left self.exit ≡ (if self.entry.accepted then self.entry.place.now else self.entry.first) }
     {
         if !self.accepted {
             *self.place = self.first;

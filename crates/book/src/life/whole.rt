@@ -19,15 +19,15 @@ use groups::{Ending, Old, Stub};
 use rows::PlainRow;
 use store::{BookFault, Edit, RefusedStub, Snapshot};
 
-// What creation takes.
-#[derive(Drop)]
-pub struct Creation<'t> {
+/// What a life's creation takes besides the memory for the trail: the number of jobs, from 1 to 256, where any other number gives a book
+/// without jobs; and the mark of its tickets.
+#[derive(Clone, Copy, Drop, PartialEq, Eq, Debug)]
+pub struct Creation {
     pub jobs: usize,
     pub mark: u16,
-    pub trail: &'t mut [Old<PlainRow>],
 }
 
-// The refusal of a life: there are fewer moments than calls.
+/// The refusal of a life: there are fewer moments than calls.
 #[derive(Clone, Copy, Drop, PartialEq, Eq, Debug)]
 pub struct TooFewMoments;
 
@@ -93,12 +93,13 @@ impl<'a> Book<'a> {
     }
 }
 
-// Lives a whole life: a book is created, and the calls are made on it, one after the other. Each moment gets the answer of its call and
-// what is seen of the book after it; what is seen at creation comes back. Detections, in scripts and outside of them, use the records and
-// the carrier; scripts write their answers to the bytes, one behind the other. Refused, with nothing changed, where there are
-// fewer moments than calls.
+/// Lives a whole life: a book is created, and the calls are made on it, one after the other. Each moment gets the answer of its call and
+/// what is seen of the book after it; what is seen at creation comes back. The trail holds old rows, as many as there are places, at most
+/// 1,024. Detections, in scripts and outside of them, use the records and the carrier; scripts write their answers to the bytes, one
+/// behind the other. `TooFewMoments`, with nothing changed, where there are fewer moments than calls.
 pub fn live<C: Carrier>(
-    creation: Creation<'_>,
+    creation: Creation,
+    trail: &mut [Old<PlainRow>],
     calls: &[Call<'_>],
     records: &mut [RunRecord],
     carrier: &mut C,
@@ -108,14 +109,14 @@ pub fn live<C: Carrier>(
     ensures law { LawOfPlainBooks }
     ensures grants { GrantsAreAllowed }
     ensures refused { is_err result ≡ nat_lt (length moments.old) (length calls.now) }
-    ensures lived { IfOk result (λ first. Lived creation.entry.jobs creation.entry.mark (length creation.entry.trail.now) calls.now first (take (length calls.now) moments.new) (lent records.old (C.Carrier.carried carrier.old) answers.old) (lent records.new (C.Carrier.carried carrier.new) answers.new)) }
+    ensures lived { IfOk result (λ first. Lived creation.jobs creation.mark (length trail.old) calls.now first (take (length calls.now) moments.new) (lent records.old (C.Carrier.carried carrier.old) answers.old) (lent records.new (C.Carrier.carried carrier.new) answers.new)) }
     ensures rest { drop (length calls.now) moments.new ≡ drop (length calls.now) moments.old }
-    ensures unchanged { IfErr result (λ _. (creation.exit.1.1.0.now ≡ creation.entry.trail.now) × (moments.new ≡ moments.old) × (records.new ≡ records.old) × (carrier.new ≡ carrier.old) × (answers.new ≡ answers.old)) }
+    ensures unchanged { IfErr result (λ _. (trail.new ≡ trail.old) × (moments.new ≡ moments.old) × (records.new ≡ records.old) × (carrier.new ≡ carrier.old) × (answers.new ≡ answers.old)) }
 {
     if moments.len() < calls.len() {
         return Err(TooFewMoments);
     }
-    let mut book = Book::new(creation.jobs, creation.mark, creation.trail);
+    let mut book = Book::new(creation.jobs, creation.mark, trail);
     let first = book.snapshot();
     let mut written = 0;
     for (place, call) in calls.iter().enumerate() {
