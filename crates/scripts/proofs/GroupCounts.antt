@@ -1,12 +1,12 @@
 -- The calls of a book, and those of a history, count the open groups.
-use Rattle.std.proofs.Common.{◌≡◌, ℕ, ◌<◌, Bool, true, false, cond, [], ◌∷◌, refl, ap, arith}
+use Rattle.std.proofs.Common.{◌≡◌, ◌<◌, Bool, true, false, cond, [], ◌∷◌, refl, ap, arith}
 use Rattle.std.proofs.lemmas.Bool.{and_from, eq-eqb, lt-ltb}
 use Rattle.groups.specs.History.{History, history}
 use Rattle.groups.specs.State.{Face, face}
 use Rattle.histories.specs.Answers.{done, accepted, not_innermost}
 use Rattle.histories.specs.Calls.{Call, edits, opens, keeps, cancels}
-use Rattle.histories.specs.Histories.{Terms, answers, face_of, listed, depth_after}
-use Rattle.histories.specs.Rules.{Rules, says, after, ending_answer}
+use Rattle.histories.specs.Histories.{answers, face_of, listed, depth_after}
+use Rattle.histories.specs.Rules.{Terms, terms, Rules, says, after, ending_answer}
 use Rattle.histories.specs.Subjects.{Subject, of_book, of_history}
 use Rattle.histories.proofs.Following.{called}
 
@@ -17,16 +17,16 @@ pub record CountsGroups {P E X : Type 0} (S : Subject P E X) : Type 0 where
   pub cancels : (x : X) → 0 < S.depth x → S.says x (cancels (S.mark x) (S.depth x)) ≡ done
 
 module _ {P E K : Type 0} (R : Rules P E K) where
-  fitting_ending : (mark : ℕ) (f : Face P) → 0 < f.depth → ending_answer R mark f mark f.depth ≡ done
-  fitting_ending mark f l =
-      ap (λ q. cond q done (not_innermost mark f.depth))
-      (and_from _ _ (eq-eqb mark mark refl) (and_from _ _ (eq-eqb f.depth f.depth refl) (lt-ltb 0 f.depth l)))
+  fitting_ending : (t : Terms K) (f : Face P) → 0 < f.depth → ending_answer R t f t.mark f.depth ≡ done
+  fitting_ending t f l =
+      ap (λ q. cond q done (not_innermost t.mark f.depth))
+      (and_from _ _ (eq-eqb t.mark t.mark refl) (and_from _ _ (eq-eqb f.depth f.depth refl) (lt-ltb 0 f.depth l)))
 
   pub of_book_counts : CountsGroups (of_book R)
   of_book_counts = record {
     mark = λ b c. (called R b c (says R b c) (after R b c) refl refl).mark;
     depth = λ b c. (called R b c (says R b c) (after R b c) refl refl).depth;
-    cancels = λ b l. fitting_ending b.state.mark (face b.state) l;
+    cancels = λ b l. fitting_ending (terms b) (face b.state) l;
   }
 
   module _ (t : Terms K) where
@@ -48,5 +48,5 @@ module _ {P E K : Type 0} (R : Rules P E K) where
     of_history_counts = record {
       mark = λ h c. refl;
       depth = λ h c. depth_listed h c (accepted (answers R t h c));
-      cancels = λ h l. fitting_ending t.mark (face_of R t h) l;
+      cancels = λ h l. fitting_ending t (face_of R t h) l;
     }
