@@ -2,3 +2,5 @@
 mod calls;
 mod common;
 mod detections;
+mod machine;
+mod near_misses;

@@ -1,9 +1,8 @@
-// The small books as rows, as books and as charts.
+// The small books as rows, and as books.
 ghost use Rattle.histories.specs.Rules.{SameGroups};
 
 use book::{Book, Old, PlainRow};
 use carriers::{Kind, Message, Wait};
-use chart::ROW_BYTES;
 use std::process::Abort;
 
 /// The most jobs that one of the small books has.
@@ -11,9 +10,6 @@ pub const JOBS: usize = 4;
 
 /// Room for two messages on each wait of the largest of them.
 pub const CELLS: usize = 10;
-
-// Bytes for a chart of the largest of them.
-const CHART_BYTES: usize = JOBS * ROW_BYTES;
 
 /// A job's row: its need, and its targets.
 pub type Row<'a> = (u8, &'a [u8]);
@@ -70,22 +66,4 @@ pub fn request_each(rt: &impl Abort, book: &mut Book, rows: &[Row])
             assert!(rt; book.request(job, *need, targets).is_ok());
         }
     }
-}
-
-// Writes a row as the bytes of a job in a chart.
-fn write_row(bytes: &mut [u8], row: Row) {
-    let (need, targets) = row;
-    let count = targets.len().min(16) as u8;
-    for (byte, value) in bytes.iter_mut().zip([need, count].iter().chain(targets)) {
-        *byte = *value;
-    }
-}
-
-/// Writes the rows as a chart; the bytes behind those of the last row are 0.
-pub fn chart_bytes(rows: &[Row]) -> [u8; CHART_BYTES] {
-    let mut bytes = [0; CHART_BYTES];
-    for (job, row) in bytes.chunks_exact_mut(ROW_BYTES).zip(rows) {
-        write_row(job, *row);
-    }
-    bytes
 }

@@ -2,7 +2,7 @@
 use crate::tests::common::*;
 use book::{Book, TwoWayTable};
 use carriers::{Carrier, Picker, QueueCarrier, StackCarrier};
-use chart::{Chart, ROW_BYTES};
+use chart::{CHART_MAX, Chart, write_chart};
 use detection::{Detection, RunRecord, Verdict, detect};
 use std::process::Abort;
 
@@ -84,9 +84,9 @@ fn comes_out(rt: &impl Abort, rows: &[Row], expected: Expected) {
     let mut book = Book::new(rows.len(), 7, &mut memory);
     request_each(rt, &mut book, rows);
     answers_over_each(rt, &book, expected);
-    let bytes = chart_bytes(rows);
-    let chart = Chart::new(&bytes[..rows.len() * ROW_BYTES]);
-    answers_over_each(rt, &chart, expected);
+    let mut bytes = [0; CHART_MAX];
+    let length = write_chart(&book, &mut bytes);
+    answers_over_each(rt, &Chart::new(&bytes[..length]), expected);
 }
 
 #[test]
