@@ -1,5 +1,5 @@
 -- What a put into a container and a take out of it mean for a carrier made of that container and a count.
-use Rattle.std.proofs.Common.{◌≡◌, ℕ, ◌+◌, ◌%◌, ◌^◌, true, [], ◌∷◌, length, Some, sym, refl, ◌∙◌, add-one, arith}
+use Rattle.std.proofs.Common.{◌≡◌, ℕ, ◌+◌, ◌%◌, ◌^◌, true, [], ◌∷◌, length, Some, None, sym, refl, ◌∙◌, add-one, arith}
 use Rattle.std.specs.List.Sorted.{IsPermutation}
 use Rattle.std.proofs.lemmas.Bool.Decides.{nat_tests}
 use Rattle.std.proofs.lemmas.List.{length-append}
@@ -12,9 +12,9 @@ use Rattle.carriers.specs.declared.message.Message.{Message}
 -- A message put last waits beside the others.
 pub put_last : (before : Held Message) (handed : ℕ) (message : Message)
     → true ≡ has_room before
-    → Put (carried_from before handed) (carried_from (with_last before message) handed) message true
+    → Put (carried_from before handed) (carried_from (with_last before message) handed) message None
 put_last before handed message room = record {
-  test = room;
+  test = rw (← room) refl;
   waiting = IsPermutation-append_comm (message ∷ []) before.items;
   len = length-append before.items (message ∷ []);
   capacity = refl;

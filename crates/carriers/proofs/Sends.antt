@@ -1,8 +1,11 @@
 -- Several puts that were all accepted.
-use Rattle.std.proofs.Common.{◌≡◌, ◌+◌, ◌<◌, Bool, true, false, List, [], ◌∷◌, ◌++◌, length, sym, refl, ◌∙◌, subst, arith, ltb-false}
+use Rattle.std.proofs.Common.{◌≡◌, ℕ, ◌+◌, ◌<◌, List, [], ◌∷◌, ◌++◌, length, Some, None, Ok, Err, Option, Result, sym, refl, ◌∙◌, subst}
 use Rattle.std.specs.List.Sorted.{IsPermutation}
 use Rattle.std.proofs.lemmas.List.{append_assoc, append-nil, length-append}
 use Rattle.std.proofs.lemmas.List.Sorted.{length_permutation, IsPermutation-refl, IsPermutation-trans, IsPermutation-to_front, IsPermutation-append_left}
+use Rattle.std.proofs.lemmas.Bool.{lt-ltb}
+use Rattle.carriers.specs.declared.carrier.CarrierFull.{CarrierFull}
+use Rattle.carriers.specs.Faults.{refusal_number}
 use Rattle.carriers.specs.Meaning.{Carried, Put, Sent}
 use Rattle.carriers.specs.declared.message.Message.{Message}
 
@@ -13,18 +16,19 @@ sent_none before =
     record { waiting = subst (λ (xs : List Message). IsPermutation xs waiting) (sym (append-nil waiting)) (IsPermutation-refl waiting); capacity = refl; handed = refl }
 
 -- A put for which there is room is accepted.
-pub sent_one : (before after : Carried) (message : Message) (accepted : Bool)
+pub sent_one : (before after : Carried) (message : Message) (r : Result (Unit {0}) CarrierFull)
     → length before.waiting < before.capacity
-    → Put before after message accepted
+    → Put before after message (refusal_number r)
     → Sent before after (message ∷ [])
-sent_one before after message true room put = record {
+sent_one before after message (Ok u) room put = record {
   waiting = IsPermutation-trans (before.waiting ++ message ∷ []) (message ∷ before.waiting) after.waiting
       (IsPermutation-to_front before.waiting message) put.waiting;
   capacity = put.capacity;
   handed = put.handed;
 }
-sent_one before after message false room put =
-    absurd (omega (arith, ltb-false (length before.waiting) before.capacity (sym put.test)))
+sent_one before after message (Err full) room put =
+    let refused : ◌≡◌ {A = Option ℕ} (Some 12) None = rw (lt-ltb (length before.waiting) before.capacity room) at put.test in
+    absurd (cc refused)
 
 -- Some puts, and then some more.
 pub sent_more : (before between after : Carried) (first then : List Message)

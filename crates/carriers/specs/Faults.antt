@@ -1,6 +1,13 @@
--- The numbers by which refusals are told.
-use Rattle.std.specs.Prelude.{ℕ}
+-- The number of the refusal of a put.
+use Rattle.std.specs.Prelude.{ℕ, Option, Result}
+use Rattle.std.specs.Option.{option_map}
+use Rattle.std.specs.Result.{result_err}
+use Rattle.carriers.specs.declared.carrier.CarrierFull.{CarrierFull}
 
--- A carrier in which as many messages wait as its capacity refuses another one with this number.
-abbrev pub carrier_full : ℕ
-carrier_full = 12
+-- As many messages wait as the carrier's capacity. It carries no value.
+abbrev pub number : CarrierFull → ℕ
+number full = 12
+
+-- The number by which a put is refused; none where it is not.
+abbrev pub refusal_number : {A : Type 0} → Result A CarrierFull → Option ℕ
+refusal_number r = option_map number (result_err r)

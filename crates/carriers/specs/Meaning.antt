@@ -1,5 +1,5 @@
 -- What a carrier means to those who use it, and what a put and a take do to that.
-use Rattle.std.specs.Prelude.{◌≡◌, ℕ, ◌+◌, ◌%◌, ◌^◌, Bool, cond, Option, is_some, List, ◌∷◌, ◌++◌, length, MatchBool, MatchOption, nat_lt}
+use Rattle.std.specs.Prelude.{◌≡◌, ℕ, ◌+◌, ◌%◌, ◌^◌, cond, Some, None, Option, is_some, is_none, List, ◌∷◌, ◌++◌, length, MatchOption, nat_lt}
 use Rattle.std.specs.List.Sorted.{IsPermutation}
 use Rattle.carriers.specs.declared.message.Message.{Message}
 
@@ -12,14 +12,14 @@ pub record Carried : Type 0 where
   -- how many it has handed out, modulo 2 ^ 32
   pub handed : ℕ
 
--- A put of a message, and whether it was accepted.
-pub record Put (before after : Carried) (message : Message) (accepted : Bool) : Type 0 where
-  -- it is refused exactly when the number of those that wait has reached the capacity
-  pub test : accepted ≡ nat_lt (length before.waiting) before.capacity
+-- A put of a message, and the number by which it is refused, if it is.
+pub record Put (before after : Carried) (message : Message) (refused : Option ℕ) : Type 0 where
+  -- it is refused, with 12, exactly when the number of those that wait has reached the capacity
+  pub test : refused ≡ cond (nat_lt (length before.waiting) before.capacity) None (Some 12)
   -- accepted, the message waits beside those that waited, in any order; refused, all is as before
-  pub waiting : MatchBool accepted (IsPermutation (message ∷ before.waiting) after.waiting) (after ≡ before)
+  pub waiting : MatchOption refused (IsPermutation (message ∷ before.waiting) after.waiting) (λ _. after ≡ before)
   -- one more waits where it was accepted
-  pub len : length after.waiting ≡ length before.waiting + cond accepted 1 0
+  pub len : length after.waiting ≡ length before.waiting + cond (is_none refused) 1 0
   -- nothing else changes
   pub capacity : after.capacity ≡ before.capacity
   pub handed : after.handed ≡ before.handed

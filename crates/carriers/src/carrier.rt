@@ -1,6 +1,6 @@
 // What carries messages, in an order of its own.
-ghost use Rattle.std.specs.Prelude.{◌≡◌, ◌≤◌, length, is_ok};
-ghost use Rattle.carriers.specs.Faults.{carrier_full};
+ghost use Rattle.std.specs.Prelude.{◌≡◌, ◌≤◌, length};
+ghost use Rattle.carriers.specs.Faults.{number, refusal_number};
 ghost use Rattle.carriers.specs.Meaning.{Carried, Put, Took};
 
 use crate::message::Message;
@@ -13,9 +13,9 @@ const CARRIER_FULL: u8 = 12;
 pub struct CarrierFull;
 
 impl CarrierFull {
-    // The number by which the refusal is told, which the rules fix.
+    /// The refusal's number, which the rules fix: 12.
     pub fn number(&self) -> u8
-        ensures { result ≡ carrier_full }
+        ensures { result ≡ number self.now }
     {
         CARRIER_FULL
     }
@@ -34,9 +34,9 @@ pub trait Carrier {
     // The messages that wait, the capacity, and how many were handed out, modulo 2^32.
     ghost carried: { Self → Carried };
 
-    // Adds the message to those that wait; a full carrier refuses it and stays as it is.
+    /// Adds the message to those that wait; a full carrier refuses it, with 12, and stays as it is.
     fn put(&mut self, message: Message) -> Result<(), CarrierFull>
-        ensures put { Put (carried self.old) (carried self.new) message (is_ok result) };
+        ensures put { Put (carried self.old) (carried self.new) message (refusal_number result) };
 
     // Hands out one of the waiting messages; where none waits there is none, and the carrier stays as it is.
     fn take(&mut self) -> Option<Message>

@@ -1,6 +1,7 @@
 // A carrier made of a container of messages, whatever the container's order, and a count of those handed out.
 ghost use Rattle.std.specs.Prelude.{◌≡◌, length, is_ok, if◌then◌else◌, MatchOption};
 ghost use Rattle.containers.specs.Held.{with_last};
+ghost use Rattle.carriers.specs.Faults.{refusal_number};
 ghost use Rattle.carriers.specs.Meaning.{Put, Took};
 ghost use Rattle.carriers.specs.Parts.{carried_from, carried_by, held_carried, container, picker_messages, picks_left, new_carrier};
 
@@ -82,7 +83,7 @@ impl<C: Container<Message>> Carrier for Counted<C> {
 
     // The message comes after those that wait.
     fn put(&mut self, message: Message) -> Result<(), CarrierFull>
-        ensures put { Put (carried_by C.Container.held self.old) (carried_by C.Container.held self.new) message (is_ok result) }
+        ensures put { Put (carried_by C.Container.held self.old) (carried_by C.Container.held self.new) message (refusal_number result) }
         ensures last { C.Container.held (container self.new) ≡ (if is_ok result then with_last (C.Container.held (container self.old)) message else C.Container.held (container self.old)) }
         ensures beside { C.Container.keeps (container self.old) (container self.new) }
     {
