@@ -9,20 +9,18 @@ use Rattle.exchange.specs.Records.{blank}
 use Rattle.exchange.specs.Runs.{Exchange}
 use Rattle.exchange.specs.Bounds.{deliveries_per_wait, capacity_per_wait, RunsBounded}
 use Rattle.exchange.specs.declared.record.RunRecord.{RunRecord}
-use Rattle.detection.specs.declared.fault.DetectionFault.{DetectionFault}
-use Rattle.detection.specs.declared.fault.DetectionFault.TheVariants.{NoSuchJob, TooFewRecords, MessagesWait, CarrierTooSmall}
 use Rattle.detection.specs.declared.verdict.Detection.{Detection}
 use Rattle.detection.specs.declared.verdict.Verdict.{Verdict}
 use Rattle.detection.specs.declared.verdict.Verdict.TheVariants.{Stuck, Free}
 
--- The first check that stops a detection: the initiator is no job; there are fewer records than jobs; messages wait in the carrier;
--- its capacity is below twice the number of waits.
-abbrev pub stop : List Waiting → (initiator records : ℕ) → Carried → Option DetectionFault
+-- The first check that stops a detection, by its number. 1: the initiator is no job. 10: there are fewer records than jobs. 11: messages
+-- wait in the carrier. 12: its capacity is below twice the number of waits.
+abbrev pub stop : List Waiting → (initiator records : ℕ) → Carried → Option ℕ
 stop rows initiator records carrier =
-    cond (nat_le (length rows) initiator) (Some NoSuchJob)
-    (cond (nat_lt records (length rows)) (Some TooFewRecords)
-    (cond (nat_lt 0 (length carrier.waiting)) (Some MessagesWait)
-    (cond (nat_lt carrier.capacity (capacity_per_wait * waits rows)) (Some CarrierTooSmall) None)))
+    cond (nat_le (length rows) initiator) (Some 1)
+    (cond (nat_lt records (length rows)) (Some 10)
+    (cond (nat_lt 0 (length carrier.waiting)) (Some 11)
+    (cond (nat_lt carrier.capacity (capacity_per_wait * waits rows)) (Some 12) None)))
 
 -- The initiator is stuck exactly if it is not free when the run is over.
 abbrev pub verdict_of : RunRecord → Verdict
