@@ -1,15 +1,13 @@
 -- What a reduction leaves.
-use Rattle.std.specs.Prelude.{◌≡◌, ℕ, ◌<◌, cond, ◌↔◌, List, length, drop, Ok, Err, Result, nat_lt, slice_index_or}
+use Rattle.std.specs.Prelude.{◌≡◌, ℕ, ◌<◌, cond, ◌↔◌, List, length, drop, Some, None, Option, nat_lt, slice_index_or}
 use Rattle.rows.specs.Waiting.{Waiting}
 use Rattle.tables.specs.Closed.{Closed, Loosened}
 use Rattle.tables.specs.Grants.{CanBeFreed}
-use Rattle.reduction.specs.declared.fault.ReductionFault.{ReductionFault}
-use Rattle.reduction.specs.declared.fault.ReductionFault.TheVariants.{TooShort}
 use Rattle.reduction.specs.Marks.{loose, held, is_loose}
 
--- It is refused exactly where there are fewer bytes than jobs.
-abbrev pub refused_or_done : (jobs bytes : ℕ) → Result (Unit {0}) ReductionFault
-refused_or_done jobs bytes = cond (nat_lt bytes jobs) (Err TooShort) (Ok tt)
+-- The check of a reduction, by its number. 10: there are fewer bytes than jobs.
+abbrev pub stop : (jobs bytes : ℕ) → Option ℕ
+stop jobs bytes = cond (nat_lt bytes jobs) (Some 10) None
 
 -- Each job's byte is decided: 0 exactly if every closed set holds the job, and 1 exactly if no list of lawful grants,
 -- the empty one counted, makes it active. The jobs of byte 0 are a closed set, and so the smallest. The bytes behind are as before.

@@ -1,16 +1,18 @@
 // The reduction: jobs are loosened one after the other, until no more can be.
 ghost use Rattle.std.specs.Prelude.{◌≡◌, length, MatchResult};
 ghost use Rattle.reduction.specs.Work.{Decided};
-ghost use Rattle.reduction.specs.Reduced.{refused_or_done, Reduced};
+ghost use Rattle.reduction.specs.Faults.{refusal_number};
+ghost use Rattle.reduction.specs.Reduced.{stop, Reduced};
 
 use crate::fault::ReductionFault;
 use crate::marking::Marking;
 use containers::{Container, Queue};
 use tables::{JOBS_MAX, Table};
 
-// Writes 0 for each loosened job of a table and 1 for each other into the first bytes; those behind stay as they are.
+/// Writes 0 for each loosened job of a table and 1 for each other into the first bytes; those behind stay as they are. Refused with 10
+/// where there are fewer bytes than jobs, and then all bytes stay as they are.
 pub fn reduce<T: Table>(table: &T, bytes: &mut [u8]) -> Result<(), ReductionFault>
-    ensures value { result ≡ refused_or_done (length (T.Table.rows table.now)) (length bytes.old) }
+    ensures refused { refusal_number result ≡ stop (length (T.Table.rows table.now)) (length bytes.old) }
     ensures after { MatchResult result (λ _. Reduced (T.Table.rows table.now) bytes.old bytes.new) (λ _. bytes.new ≡ bytes.old) }
 {
     let jobs = table.jobs();
