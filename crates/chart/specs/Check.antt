@@ -3,8 +3,7 @@ use Rattle.std.specs.Prelude.{ℕ, ◌%◌, Bool, cond, not, ◌||◌, List, [],
 use Rattle.std.specs.List.{enumerate_from}
 use Rattle.rows.specs.Waiting.{Waiting}
 use Rattle.rows.specs.Law.{stored_fits}
-use Rattle.chart.specs.declared.fault.ChartFault.{ChartFault}
-use Rattle.chart.specs.declared.fault.ChartFault.TheVariants.{WrongLength, WrongRow}
+use Rattle.chart.specs.Faults.{Refusal, refused}
 use Rattle.chart.specs.Layout.{row_bytes, chart_max, need_byte, count_byte, target_bytes, row_of, job_count, bytes_of_jobs}
 
 -- No byte, a part of a row, or more than 256 rows.
@@ -19,17 +18,17 @@ row_right n job bytes = stored_fits n job (need_byte bytes) (count_byte bytes) (
 abbrev pub first_wrong_row : List (List ℕ) → Option ℕ
 first_wrong_row rows = position (λ r. not (row_right (length rows) r.0 r.1)) (enumerate_from 0 rows)
 
--- So many jobs; or the job of the first wrong row.
-abbrev pub counted_or_wrong : (n : ℕ) → Option ℕ → Result ℕ ChartFault
+-- So many jobs; or 19, with the job of the first wrong row.
+abbrev pub counted_or_wrong : (n : ℕ) → Option ℕ → Result ℕ Refusal
 counted_or_wrong n None = Ok n
-counted_or_wrong n (Some job) = Err (WrongRow job)
+counted_or_wrong n (Some job) = Err (refused 19 (Some job))
 
--- The number of jobs, or the first reason against the bytes.
-abbrev pub checked : List ℕ → Result ℕ ChartFault
-checked bytes = cond (wrong_length (length bytes)) (Err WrongLength) (counted_or_wrong (job_count bytes) (first_wrong_row (bytes_of_jobs bytes)))
+-- The number of jobs, or the first reason against the bytes; 18 for a wrong length.
+abbrev pub checked : List ℕ → Result ℕ Refusal
+checked bytes = cond (wrong_length (length bytes)) (Err (refused 18 None)) (counted_or_wrong (job_count bytes) (first_wrong_row (bytes_of_jobs bytes)))
 
 -- The rows of a chart; refused bytes have none.
-abbrev pub rows_told : Result ℕ ChartFault → List ℕ → List Waiting
+abbrev pub rows_told : Result ℕ Refusal → List ℕ → List Waiting
 rows_told (Ok n) bytes = map row_of (bytes_of_jobs bytes)
 rows_told (Err e) bytes = []
 

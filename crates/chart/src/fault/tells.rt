@@ -1,11 +1,12 @@
 // What a refusal tells.
 ghost use Rattle.std.specs.Prelude.{◌≡◌};
 ghost use Rattle.chart.specs.Faults.{number, value};
+ghost use Rattle.chart.specs.declared.fault.ChartFault.{ChartFault};
 
 use crate::fault::ChartFault;
 
 impl ChartFault {
-    // The number of the refusal, which the rules fix.
+    /// The refusal's number, which the rules fix: 18 or 19.
     pub fn number(&self) -> u8
         ensures { result ≡ number self.now }
     {
@@ -15,9 +16,10 @@ impl ChartFault {
         }
     }
 
-    // The job of a wrong row.
+    /// The job of a wrong row. No other refusal of a chart has this number and value.
     pub fn value(&self) -> Option<usize>
-        ensures { result ≡ value self.now }
+        ensures value { result ≡ value self.now }
+        ensures own { (other : ChartFault) → number other ≡ number self.now → value other ≡ result → other ≡ self.now }
     {
         match *self {
             ChartFault::WrongLength => None,
