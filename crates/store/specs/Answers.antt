@@ -3,10 +3,9 @@ use Rattle.std.specs.Prelude.{ℕ, cond, not, ◌||◌, length, Some, None, Opti
 use Rattle.rows.specs.Waiting.{Waiting, at, among}
 use Rattle.rows.specs.Changes.{wrong_counts, first_wrong}
 use Rattle.groups.specs.State.{Face, full}
-use Rattle.histories.specs.Answers.{Answer, done, stopped}
+use Rattle.histories.specs.Answers.{Answer, done, stopped, trail_full}
 use Rattle.histories.specs.Rules.{Terms}
 use Rattle.store.specs.declared.fault.BookFault.{BookFault}
-use Rattle.store.specs.declared.fault.BookFault.TheVariants.{NoSuchJob, Blocked, WrongCounts, WrongTarget, TrailFull, GranterBlocked, NoSuchWait}
 use Rattle.store.specs.Faults.{number, value}
 use Rattle.store.specs.Calls.{Edit, requests, grants}
 use Rattle.store.specs.Books.{Fixed}
@@ -15,23 +14,24 @@ use Rattle.store.specs.Books.{Fixed}
 abbrev pub refusal : BookFault → Answer
 refusal fault = stopped (number fault) (value fault)
 
--- The first wrong target stops a request.
+-- The first wrong target stops a request, with 4 and its place.
 abbrev pub refused_at : Option ℕ → Answer → Answer
 refused_at None answer = answer
-refused_at (Some place) answer = refusal (WrongTarget place)
+refused_at (Some place) answer = stopped 4 (Some place)
 
--- The checks of a request: 1, 2, 3, 4, 5; and those of a grant: 1, 6, 7, 5.
+-- The checks of a request: 1, no such job; 2, the job is blocked; 3, wrong counts; 4, a wrong target; 5, the trail is full. And those of a
+-- grant: 1, no such job; 6, the granter is blocked; 7, no such wait; 5.
 abbrev pub edit_answer : Terms Fixed → Face Waiting → Edit → Answer
 edit_answer t f (requests job need targets) =
-    cond (nat_le t.jobs job) (refusal NoSuchJob)
-    (cond (nat_lt 0 (at f.rows job).need) (refusal Blocked)
-    (cond (wrong_counts need (length targets)) (refusal WrongCounts)
+    cond (nat_le t.jobs job) (stopped 1 None)
+    (cond (nat_lt 0 (at f.rows job).need) (stopped 2 None)
+    (cond (wrong_counts need (length targets)) (stopped 3 None)
     (refused_at (first_wrong t.jobs job 0 0 targets)
-    (cond (full t.room f) (refusal TrailFull)
+    (cond (full t.room f) trail_full
     done))))
 edit_answer t f (grants granter waiter) =
-    cond (nat_le t.jobs granter || nat_le t.jobs waiter) (refusal NoSuchJob)
-    (cond (nat_lt 0 (at f.rows granter).need) (refusal GranterBlocked)
-    (cond (not (among granter (at f.rows waiter).targets)) (refusal NoSuchWait)
-    (cond (full t.room f) (refusal TrailFull)
+    cond (nat_le t.jobs granter || nat_le t.jobs waiter) (stopped 1 None)
+    (cond (nat_lt 0 (at f.rows granter).need) (stopped 6 None)
+    (cond (not (among granter (at f.rows waiter).targets)) (stopped 7 None)
+    (cond (full t.room f) trail_full
     done)))

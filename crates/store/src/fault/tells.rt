@@ -1,6 +1,7 @@
 // The number of a refusal, and the value that it carries.
 ghost use Rattle.std.specs.Prelude.{◌≡◌};
 ghost use Rattle.store.specs.Faults.{number, value, of_row};
+ghost use Rattle.store.specs.declared.fault.BookFault.{BookFault};
 ghost use Rattle.store.specs.declared.fault.BookFault.TheVariants.{TrailFull as FullTrail};
 
 use crate::fault::BookFault;
@@ -8,8 +9,9 @@ use groups::TrailFull;
 use rows::RowFault;
 
 impl BookFault {
-    // The refusal's number, which the rules fix. Other faults have a number too, each by a definition of its own, and
-    // nothing goes over all of them, so that a trait would be no plainer; the same of the value.
+    /// The refusal's number, which the rules fix, from 1 to 9.
+    // Other faults have a number too, each by a definition of its own, and nothing goes over all of them, so that a trait would be
+    // no plainer; the same of the value.
     pub fn number(&self) -> u8
         ensures { result ≡ number self.now }
     {
@@ -26,9 +28,10 @@ impl BookFault {
         }
     }
 
-    // The place of the first wrong target; no other refusal of the book carries a value.
+    /// The place of the first wrong target, from 0; no other refusal of the book carries a value, and none has this number and value.
     pub fn value(&self) -> Option<usize>
-        ensures { result ≡ value self.now }
+        ensures value { result ≡ value self.now }
+        ensures own { (other : BookFault) → number other ≡ number self.now → value other ≡ result → other ≡ self.now }
     {
         match *self {
             BookFault::WrongTarget(place) => Some(place),
