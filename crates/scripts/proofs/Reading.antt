@@ -7,6 +7,7 @@ use Rattle.scripts.specs.declared.tally.Position.{Position}
 use Rattle.histories.specs.Rules.{after}
 use Rattle.histories.specs.Calls.{cancels}
 use Rattle.scripts.specs.Commands.{Command, whole, head}
+use Rattle.scripts.specs.ScriptFaults.{refusal_of}
 use Rattle.scripts.specs.Scripts.{Progress, CarriesOut, Stops, Steps, Reads, carries, stops, strange, finishes, faults, steps, unreadable, cancel_groups}
 use Rattle.histories.specs.Subjects.{of_book}
 use Rattle.store.specs.Plain.{plain}
@@ -14,7 +15,7 @@ use Rattle.store.specs.Books.{PlainBook}
 
 module _ {unread : List ℕ} {p : Progress PlainBook} {m : ℕ} where
   -- what the reader stands behind after a step
-  pub strange_step : (r : Result (Unit {0}) ScriptFault) (fault : ScriptFault) → IsErrAnd r (λ y. y ≡ fault) → unreadable (head unread) ≡ Some fault → m ≡ 0 → Steps (of_book plain) unread p (result_err r) p m
+  pub strange_step : (r : Result (Unit {0}) ScriptFault) (fault : ScriptFault) → IsErrAnd r (λ y. y ≡ fault) → unreadable (head unread) ≡ Some (refusal_of fault) → m ≡ 0 → Steps (of_book plain) unread p (result_err r) p m
   strange_step (Ok u) fault h e z = absurd h
   strange_step (Err f) fault h e z = rw (h, z) (strange e)
 

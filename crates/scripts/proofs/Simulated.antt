@@ -1,7 +1,8 @@
 -- A script on a book is the same script on whatever history the book shows.
-use Rattle.std.proofs.Common.{◌≡◌, ℕ, zero, suc, ◌≤◌, Bool, true, false, List, length, Option, Some, None, Result, Ok, Err, MatchBool, sym, refl, ap, ◌∙◌, subst, nat_lt}
+use Rattle.std.proofs.Common.{◌≡◌, ℕ, zero, suc, ◌≤◌, Bool, true, false, List, length, Option, Some, None, Result, Ok, MatchBool, sym, refl, ap, ◌∙◌, subst, nat_lt}
 use Rattle.std.proofs.lemmas.Bool.{le-ltb}
 use Rattle.groups.specs.History.{History}
+use Rattle.detection.specs.Detected.{stop}
 use Rattle.detection.specs.Detects.{Detects}
 use Rattle.scripts.specs.declared.fault.ScriptFault.{ScriptFault}
 use Rattle.scripts.specs.declared.fault.StoppedScript.{StoppedScript}
@@ -43,11 +44,11 @@ module _ (t : Terms Fixed) where
       (h, answered l (subst (λ rows. Detects rows job p.lent.records is p.lent.carrier carrier (Ok d)) (same_rows plain t w) a), w)
 
   stops_so : {p : Progress PlainBook} {c : Command} {fault : ScriptFault} {h : History Edit} → Stands plain t p.subject h → Stops (of_book plain) p c fault → Stops (of_history plain t) (on p h) c fault
-  stops_so w (not_edited {e = e} a) = not_edited (sym (same_answer plain t w (edits e)) ∙ a)
-  stops_so w (not_opened a) = not_opened (sym (same_answer plain t w opens) ∙ a)
-  stops_so w (no_group z) = no_group z
-  stops_so w (no_space l) = no_space l
-  stops_so {p} w (not_detected {job = job} {fault = fault} l a) = not_detected l (subst (λ rows. Detects rows job p.lent.records p.lent.records p.lent.carrier p.lent.carrier (Err fault)) (same_rows plain t w) a)
+  stops_so w (not_edited {e = e} a r) = not_edited (sym (same_answer plain t w (edits e)) ∙ a) r
+  stops_so w (not_opened a r) = not_opened (sym (same_answer plain t w opens) ∙ a) r
+  stops_so w (no_group z r) = no_group z r
+  stops_so w (no_space l r) = no_space l r
+  stops_so {p} w (not_detected {job = job} l a r) = not_detected l (ap (λ rows. stop rows job (length p.lent.records) p.lent.carrier) (sym (same_rows plain t w)) ∙ a) r
 
   steps_so : {unread : List ℕ} {p q : Progress PlainBook} {o : Option ScriptFault} {n : ℕ} {h : History Edit} → Stands plain t p.subject h → Steps (of_book plain) unread p o q n
       → (i : History Edit) × Steps (of_history plain t) unread (on p h) o (on q i) n × Stands plain t q.subject i
@@ -87,7 +88,7 @@ module _ (t : Terms Fixed) where
   scripted_if : (q : Bool) {s s' : PlainBook} (l l' : Lent) (script : List ℕ) (a : Result FinishedScript StoppedScript) {h : History Edit} → Stands plain t s h
       → MatchBool q (Refused (of_book plain) s l a s' l') (Worked (of_book plain) s l script a s' l')
       → (i : History Edit) × MatchBool q (Refused (of_history plain t) h l a i l') (Worked (of_history plain t) h l script a i l') × Stands plain t s' i
-  scripted_if true l l' script a {h} w k = (h, record { says = k.says; leaves = refl; lends = k.lends }, subst (λ x. Stands plain t x h) (sym k.leaves) w)
+  scripted_if true l l' script a {h} w k = (h, record { fault = k.fault; too_long = k.too_long; says = k.says; leaves = refl; lends = k.lends }, subst (λ x. Stands plain t x h) (sym k.leaves) w)
   scripted_if false l l' script a w k = worked_so w k
 
   pub scripted_so : {s s' : PlainBook} (l l' : Lent) (script : List ℕ) (a : Result FinishedScript StoppedScript) {h : History Edit} → Stands plain t s h → Scripted (of_book plain) s l script a s' l'

@@ -2,6 +2,7 @@
 use Rattle.std.specs.Prelude.{◌≡◌, ℕ, ◌+◌, ◌-◌, ◌<◌, ◌≤◌, List, [], ◌∷◌, length, take, drop, Some, MatchResult, Result}
 use Rattle.std.specs.Borrow.{MutBor}
 use Rattle.scripts.specs.Commands.{Command, makes, opening, ending, detecting, Head, whole}
+use Rattle.scripts.specs.ScriptFaults.{refusal_of}
 use Rattle.scripts.specs.Scripts.{unreadable}
 use Rattle.store.specs.Views.{edit_of}
 use Rattle.scripts.specs.declared.command.Command.{Command as Told}
@@ -41,4 +42,4 @@ abbrev pub CommandRead : (List ℕ → Head) → (before : ℕ) (script : List �
 CommandRead at before script from to r =
     MatchResult r
     (λ c. (at (drop from script) ≡ whole (command_of c) (to - from + before)) × (from < to) × (to ≤ length script))
-    (λ fault. unreadable (at (drop from script)) ≡ Some fault)
+    (λ fault. unreadable (at (drop from script)) ≡ Some (refusal_of fault))

@@ -2,14 +2,14 @@
 use Rattle.std.specs.Prelude.{◌≡◌, ℕ, zero, suc, ◌+◌, ◌-◌, ◌/◌, ◌%◌, ◌<◌, ◌≤◌, List, [], ◌∷◌, ◌++◌, length, take, drop, Some, None, Ok, Err, MatchBool, Option, Result, nat_lt}
 use Rattle.carriers.specs.Meaning.{Carried}
 use Rattle.exchange.specs.declared.record.RunRecord.{RunRecord}
+use Rattle.detection.specs.Detected.{stop}
 use Rattle.detection.specs.Detects.{Detects}
 use Rattle.detection.specs.declared.verdict.Detection.{Detection}
 use Rattle.detection.specs.declared.verdict.Verdict.{Verdict}
 use Rattle.detection.specs.declared.verdict.Verdict.TheVariants.{Stuck, Free}
 use Rattle.rows.specs.Waiting.{Waiting}
 use Rattle.groups.specs.declared.store.Ending.{Ending}
-use Rattle.histories.specs.Answers.{done, ticket}
-use Rattle.store.specs.Answers.{refusal}
+use Rattle.histories.specs.Answers.{done, ticket, stopped}
 use Rattle.store.specs.Calls.{Edit}
 use Rattle.histories.specs.Calls.{Call, edits, opens, cancels, ends}
 use Rattle.scripts.specs.Commands.{Command, makes, opening, ending, detecting, Head, over, unknown, cut, whole, head}
@@ -17,7 +17,7 @@ use Rattle.scripts.specs.Lent.{Lent}
 use Rattle.scripts.specs.Limits.{script_max, detection_bytes}
 use Rattle.histories.specs.Subjects.{Subject}
 use Rattle.scripts.specs.declared.fault.ScriptFault.{ScriptFault}
-use Rattle.scripts.specs.declared.fault.ScriptFault.TheVariants.{TooLong, UnknownLetter, CutOff, NoScriptGroup, NoAnswerSpace, OfBook, OfDetection}
+use Rattle.scripts.specs.ScriptFaults.{Refusal, refusal_of, by_script, by_book, by_detection}
 use Rattle.scripts.specs.declared.fault.StoppedScript.{StoppedScript}
 use Rattle.scripts.specs.declared.fault.FinishedScript.{FinishedScript}
 use Rattle.scripts.specs.declared.tally.Position.{Position}
@@ -42,11 +42,11 @@ answer_bytes job d = job ∷ verdict_byte d.verdict ∷ d.deliveries / 256 ∷ d
 abbrev pub with_answer : (bytes : List ℕ) (written : ℕ) → List ℕ → List ℕ
 with_answer bytes written answer = take written bytes ++ (answer ++ drop (written + length answer) bytes)
 
--- Why bytes are no command: the first is no command's letter, or they end inside the command.
-abbrev pub unreadable : Head → Option ScriptFault
+-- Why bytes are no command. 14: the first is no command's letter. 15: they end inside the command.
+abbrev pub unreadable : Head → Option Refusal
 unreadable over = None
-unreadable unknown = Some UnknownLetter
-unreadable cut = Some CutOff
+unreadable unknown = Some (by_script 14)
+unreadable cut = Some (by_script 15)
 unreadable (whole c n) = None
 
 module _ {X : Type 0} (S : Subject Waiting Edit X) where
@@ -76,20 +76,25 @@ module _ {X : Type 0} (S : Subject Waiting Edit X) where
     answered : {p : Progress X} {job : ℕ} {d : Detection} {is : List RunRecord} {after : Carried} → p.written + detection_bytes ≤ length p.lent.bytes
         → Detects (S.rows p.subject) job p.lent.records is p.lent.carrier after (Ok d) → CarriesOut p (detecting job) (after_detection p job d is after)
 
-  -- A fault stops a command: the script's own checks come first, then those of the call.
+  -- A fault stops a command: the script's own checks come first, 16 and 17, and then those of the call. Which fault it is, is told by the
+  -- refusal's layer, number and value.
   pub data Stops : Progress X → Command → ScriptFault → Type 0 where
-    not_edited : {p : Progress X} {e : Edit} {fault : _} → S.says p.subject (edits e) ≡ refusal fault → Stops p (makes e) (OfBook fault)
-    not_opened : {p : Progress X} {fault : _} → S.says p.subject opens ≡ refusal fault → Stops p opening (OfBook fault)
-    no_group : {p : Progress X} {e : Ending} → p.groups ≡ 0 → Stops p (ending e) NoScriptGroup
-    no_space : {p : Progress X} {job : ℕ} → length p.lent.bytes < p.written + detection_bytes → Stops p (detecting job) NoAnswerSpace
-    not_detected : {p : Progress X} {job : ℕ} {fault : _} → p.written + detection_bytes ≤ length p.lent.bytes
-        → Detects (S.rows p.subject) job p.lent.records p.lent.records p.lent.carrier p.lent.carrier (Err fault) → Stops p (detecting job) (OfDetection fault)
+    not_edited : {p : Progress X} {e : Edit} {number : ℕ} {value : Option ℕ} {fault : ScriptFault} → S.says p.subject (edits e) ≡ stopped number value
+        → refusal_of fault ≡ by_book number value → Stops p (makes e) fault
+    not_opened : {p : Progress X} {number : ℕ} {value : Option ℕ} {fault : ScriptFault} → S.says p.subject opens ≡ stopped number value
+        → refusal_of fault ≡ by_book number value → Stops p opening fault
+    no_group : {p : Progress X} {e : Ending} {fault : ScriptFault} → p.groups ≡ 0 → refusal_of fault ≡ by_script 16 → Stops p (ending e) fault
+    no_space : {p : Progress X} {job : ℕ} {fault : ScriptFault} → length p.lent.bytes < p.written + detection_bytes → refusal_of fault ≡ by_script 17
+        → Stops p (detecting job) fault
+    not_detected : {p : Progress X} {job number : ℕ} {fault : ScriptFault} → p.written + detection_bytes ≤ length p.lent.bytes
+        → stop (S.rows p.subject) job (length p.lent.records) p.lent.carrier ≡ Some number → refusal_of fault ≡ by_detection number
+        → Stops p (detecting job) fault
 
   -- The command at the head of the bytes unread: it is carried out, and so many bytes are read; or there is a fault, and nothing changes.
   pub data Steps : (unread : List ℕ) → Progress X → Option ScriptFault → Progress X → (bytes : ℕ) → Type 0 where
     carries : {unread : List ℕ} {p q : Progress X} {c : Command} {n : ℕ} → head unread ≡ whole c n → CarriesOut p c q → Steps unread p None q n
     stops : {unread : List ℕ} {p : Progress X} {c : Command} {n : ℕ} {fault : ScriptFault} → head unread ≡ whole c n → Stops p c fault → Steps unread p (Some fault) p 0
-    strange : {unread : List ℕ} {p : Progress X} {fault : ScriptFault} → unreadable (head unread) ≡ Some fault → Steps unread p (Some fault) p 0
+    strange : {unread : List ℕ} {p : Progress X} {fault : ScriptFault} → unreadable (head unread) ≡ Some (refusal_of fault) → Steps unread p (Some fault) p 0
 
   -- So many bytes further on stands the next command.
   abbrev pub next : Position → (bytes : ℕ) → Position
@@ -126,9 +131,11 @@ module _ {X : Type 0} (S : Subject Waiting Edit X) where
     pub leaves : x' ≡ cancel_groups last.groups last.subject
     pub lends : lent' ≡ last.lent
 
-  -- One that is too long is not begun.
+  -- One that is too long is not begun: 13.
   pub record Refused (x : X) (lent : Lent) (answer : Result FinishedScript StoppedScript) (x' : X) (lent' : Lent) : Type 0 where
-    pub says : answer ≡ Err (record { fault = TooLong; offset = 0; index = 0; written = 0 })
+    pub fault : ScriptFault
+    pub too_long : refusal_of fault ≡ by_script 13
+    pub says : answer ≡ Err (record { fault = fault; offset = 0; index = 0; written = 0 })
     pub leaves : x' ≡ x
     pub lends : lent' ≡ lent
 

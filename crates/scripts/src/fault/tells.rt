@@ -1,6 +1,7 @@
 // The number, the value and the layer of a fault, and how it comes from the book's and the detection's.
 ghost use Rattle.std.specs.Prelude.{◌≡◌};
-ghost use Rattle.scripts.specs.ScriptFaults.{script_number, script_value, script_layer};
+ghost use Rattle.scripts.specs.ScriptFaults.{script_number, script_value, script_layer, refusal_of};
+ghost use Rattle.scripts.specs.declared.fault.ScriptFault.{ScriptFault};
 ghost use Rattle.scripts.specs.declared.fault.ScriptFault.TheVariants.{OfBook, OfDetection};
 
 use crate::fault::ScriptFault;
@@ -8,7 +9,7 @@ use detection::DetectionFault;
 use store::BookFault;
 
 impl ScriptFault {
-    // The fault's number, which the rules fix.
+    /// The fault's number, which the rules fix: from 13 to 17; or that of the book's or the detection's refusal.
     pub fn number(&self) -> u8
         ensures { result ≡ script_number self.now }
     {
@@ -23,7 +24,7 @@ impl ScriptFault {
         }
     }
 
-    // The value that it carries: the place of the first wrong target.
+    /// The value that it carries: the place of the first wrong target, from 0.
     pub fn value(&self) -> Option<usize>
         ensures { result ≡ script_value self.now }
     {
@@ -33,9 +34,10 @@ impl ScriptFault {
         }
     }
 
-    // Whose fault it is: 0 the script's, 1 the book's, 2 the detection's. The rules fix the numbers.
+    /// Whose fault it is: 0 the script's, 1 the book's, 2 the detection's. No other fault has this layer, number and value.
     pub fn layer(&self) -> u8
-        ensures { result ≡ script_layer self.now }
+        ensures value { result ≡ script_layer self.now }
+        ensures own { (other : ScriptFault) → refusal_of other ≡ refusal_of self.now → other ≡ self.now }
     {
         match self {
             ScriptFault::OfBook(_) => 1,

@@ -1,17 +1,17 @@
-use Rattle.std.proofs.Common.{◌+◌, ◌≤◌, length, refl, arith}
+use Rattle.std.proofs.Common.{◌+◌, ◌≤◌, length, refl, sym, arith}
 use Rattle.scripts.specs.Commands.{detecting}
 use Rattle.scripts.specs.Scripts.{no_space, not_detected, answered}
 use Rattle.scripts.proofs.Working.{fault_stops, bytes_behind}
 use Rattle.scripts.proofs.work.answer.Goals as goal
 
 pub returns-then-answers-tally-lt-DETECTION_BYTES-clause-done : goal.returns-then-answers-tally-lt-DETECTION_BYTES-clause-done
-returns-then-answers-tally-lt-DETECTION_BYTES-clause-done g c = (no_space (omega (arith, c.requires.written, c.if-answers-tally-lt-DETECTION_BYTES.true)), refl)
+returns-then-answers-tally-lt-DETECTION_BYTES-clause-done g c = (no_space (omega (arith, c.requires.written, c.if-answers-tally-lt-DETECTION_BYTES.true)) refl, refl)
 
 pub returns-in_err-found-clause-done : goal.returns-in_err-found-clause-done
 returns-in_err-found-clause-done g c =
     let e = c.in_err-found.ensures in
     fault_stops (detecting c.args.job) _ _ c.from_residual.result _ c.from_residual.ensures.1
-    (not_detected (omega (arith, c.requires.written, c.if-answers-tally-lt-DETECTION_BYTES.false)) (record { stopped = e.detects.stopped; left = (refl, refl) }))
+    (not_detected (omega (arith, c.requires.written, c.if-answers-tally-lt-DETECTION_BYTES.false)) (sym e.detects.stopped) refl)
     (rw (e.detects.left.0, e.detects.left.1) refl)
 
 pub answer_bytes-requires : goal.answer_bytes-requires

@@ -8,15 +8,15 @@ use Rattle.scripts.proofs.work.carry_out.Goals as goal
 pub returns-in_err-open-in-Open-clause-done : goal.returns-in_err-open-in-Open-clause-done
 returns-in_err-open-in-Open-clause-done g c =
     let k = c.in_err-open-in-Open.ensures in
-    rw c.in-Open.is (fault_stops _ _ _ c.from_residual.result _ c.from_residual.ensures.1 (not_opened (sym k.value)) (refused_far _ _ _ _ _ _ opens _ k))
+    rw c.in-Open.is (fault_stops _ _ _ c.from_residual.result _ c.from_residual.ensures.1 (not_opened (sym k.value) refl) (refused_far _ _ _ _ _ _ opens _ k))
 
 pub returns-then-tally-eq0-clause-done : goal.returns-then-tally-eq0-clause-done
-returns-then-tally-eq0-clause-done g c = rw c.in-End.is (no_group c.if-tally-eq0.true, refl)
+returns-then-tally-eq0-clause-done g c = rw c.in-End.is (no_group c.if-tally-eq0.true refl, refl)
 
 pub returns-in_err-edit-in-Edit-clause-done : goal.returns-in_err-edit-in-Edit-clause-done
 returns-in_err-edit-in-Edit-clause-done g c =
     let k = c.in_err-edit-in-Edit.ensures in
-    rw c.in-Edit.is (fault_stops _ _ _ c.from_residual-in_err-edit-in-Edit.result _ c.from_residual-in_err-edit-in-Edit.ensures.1 (not_edited (sym k.value)) (refused_far _ _ _ _ _ _ (edits (edit_of c.in-Edit.edit)) _ k))
+    rw c.in-Edit.is (fault_stops _ _ _ c.from_residual-in_err-edit-in-Edit.result _ c.from_residual-in_err-edit-in-Edit.ensures.1 (not_edited (sym k.value) refl) (refused_far _ _ _ _ _ _ (edits (edit_of c.in-Edit.edit)) _ k))
 
 pub returns-in_ok-open-in-Open-clause-done : goal.returns-in_ok-open-in-Open-clause-done
 returns-in_ok-open-in-Open-clause-done g c =
