@@ -1,11 +1,10 @@
 -- Rows written as a chart, and what comes of reading them.
-use Rattle.std.specs.Prelude.{◌≡◌, ℕ, cond, List, ◌∷◌, length, Ok, Err, Result, ◌==◌}
+use Rattle.std.specs.Prelude.{◌≡◌, ℕ, cond, List, ◌∷◌, length, None, Ok, Err, Result, ◌==◌}
 use Rattle.std.specs.List.{flat_map}
 use Rattle.rows.specs.Waiting.{Waiting}
 use Rattle.rows.specs.Views.{places_of}
 use Rattle.chart.specs.Check.{checked, chart_rows}
-use Rattle.chart.specs.declared.fault.ChartFault.{ChartFault}
-use Rattle.chart.specs.declared.fault.ChartFault.TheVariants.{WrongLength}
+use Rattle.chart.specs.Faults.{Refusal, refused}
 
 -- The bytes of a job: its need, its number of targets, the targets, and 0 in each target byte that is not in use.
 abbrev pub bytes_of_row : Waiting → List ℕ
@@ -15,9 +14,9 @@ bytes_of_row w = w.need ∷ length w.targets ∷ places_of w.targets
 abbrev pub bytes_of_rows : List Waiting → List ℕ
 bytes_of_rows rows = flat_map bytes_of_row rows
 
--- The check counts the jobs, but where there are none: no bytes are no chart.
-abbrev pub counted : (jobs : ℕ) → Result ℕ ChartFault
-counted jobs = cond (jobs == 0) (Err WrongLength) (Ok jobs)
+-- The check counts the jobs, but where there are none: it refuses no bytes with 18.
+abbrev pub counted : (jobs : ℕ) → Result ℕ Refusal
+counted jobs = cond (jobs == 0) (Err (refused 18 None)) (Ok jobs)
 
 -- Checked and read, the bytes give the rows again.
 pub record ReadsBack (rows : List Waiting) (bytes : List ℕ) : Type 0 where
