@@ -6,7 +6,7 @@ use Rattle.tables.specs.Grants.{Grant, Allowed}
 use Rattle.tables.proofs.Laws.{who_waits_is_a_job}
 use Rattle.groups.specs.State.{face, full}
 use Rattle.histories.specs.Answers.{Answer, done}
-use Rattle.store.specs.Answers.{refusal}
+use Rattle.store.specs.EditAnswers.{refusal}
 use Rattle.histories.specs.Rules.{says}
 use Rattle.store.specs.declared.fault.BookFault.{BookFault}
 use Rattle.store.specs.declared.fault.BookFault.TheVariants.{NoSuchJob, TrailFull, GranterBlocked, NoSuchWait}

@@ -6,7 +6,7 @@ use Rattle.histories.specs.Answers.{done}
 use Rattle.histories.specs.Calls.{Call, edits}
 use Rattle.histories.specs.Rules.{says, changed}
 use Rattle.lives.specs.Law.{LawOfLives}
-use Rattle.store.specs.Calls.{Edit, grants}
+use Rattle.store.specs.Edits.{Edit, grants}
 use Rattle.scripts.specs.Events.{RunsOnBook, RunsOnHistory}
 use Rattle.store.specs.Plain.{plain}
 use Rattle.store.specs.Books.{PlainBook}

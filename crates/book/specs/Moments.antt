@@ -8,7 +8,7 @@ use Rattle.rows.specs.Waiting.{Waiting}
 use Rattle.groups.specs.History.{History, begun}
 use Rattle.detection.specs.declared.fault.DetectionFault.{DetectionFault}
 use Rattle.detection.specs.declared.verdict.Detection.{Detection}
-use Rattle.store.specs.Calls.{Edit}
+use Rattle.store.specs.Edits.{Edit}
 use Rattle.histories.specs.Calls.{edits, opens, ends}
 use Rattle.lives.specs.Events.{made, detected}
 use Rattle.scripts.specs.Events.{BookEvent, scripted, LifeOfBook, LifeOfHistory}

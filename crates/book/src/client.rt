@@ -1,6 +1,6 @@
 // The book: a store that nobody else has, and whose groups are ended by tickets alone.
 ghost use Rattle.std.specs.Prelude.{◌≡◌, ◌<◌, ◌≤◌, ◌+◌, length, IfOk, IsOk};
-ghost use Rattle.store.specs.Calls.{requests, grants};
+ghost use Rattle.store.specs.Edits.{requests, grants};
 ghost use Rattle.store.specs.Creation.{new_book};
 ghost use Rattle.store.specs.Plain.{plain};
 ghost use Rattle.store.specs.Views.{told};

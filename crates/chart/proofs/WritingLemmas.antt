@@ -98,7 +98,7 @@ none_is_wrong rows h =
     let n = length rows in
     let written = map bytes_of_row rows in
     let right : rows_obey (row_right n) 0 written ≡ true =
-        map_obeys (row_fits n) (row_right n) bytes_of_row (λ k w fits. written_row_is_right w (few_targets n k w fits) n k fits) 0 rows h in
+    map_obeys (row_fits n) (row_right n) bytes_of_row (λ k w fits. written_row_is_right w (few_targets n k w fits) n k fits) 0 rows h in
     let width : length written ≡ n = length-map rows bytes_of_row in
     position_from-zero (λ (r : ℕ × List ℕ). not (row_right (length written) r.0 r.1)) (enumerate_from 0 written)
     ∙ ap (λ k. position_from (λ (r : ℕ × List ℕ). not (row_right k r.0 r.1)) 0 (enumerate_from 0 written)) width

@@ -4,10 +4,10 @@ use Rattle.std.proofs.lemmas.List.{set-set, set-get_or}
 use Rattle.std.proofs.lemmas.Bool.{eq-eqb, lt-ltb}
 use Rattle.groups.specs.State.{face, innermost, noted, merged, old_row, opened}
 use Rattle.groups.proofs.Stepped.{same_state}
-use Rattle.histories.specs.Calls.{edits, opens, keeps, cancels}
-use Rattle.histories.specs.Rules.{BookState, book_state, Rules, changed, says, after}
-use Rattle.histories.specs.Histories.{Called}
-use Rattle.histories.specs.Answers.{Answer, ticket, accepted, too_deep}
+use Rattle.book.specs.Calls.{edits, opens, keeps, cancels}
+use Rattle.book.specs.Rules.{BookState, book_state, Rules, changed, says, after}
+use Rattle.book.specs.Histories.{Called}
+use Rattle.book.specs.Answers.{Answer, ticket, accepted, too_deep}
 
 module _ {P E K : Type 0} (R : Rules P E K) where
   abbrev opening : BookState P K → BookState P K

@@ -1,14 +1,14 @@
 -- What a fillet does to the book, and what comes of it.
 use Rattle.std.specs.Prelude.{ℕ, Bool, cond, ◌&&◌, List, Some, None, Ok, Err, Option, Result}
-use Rattle.histories.specs.Calls.{Call, edits, opens}
-use Rattle.store.specs.Calls.{Edit, requests}
-use Rattle.histories.specs.Rules.{changed, says}
-use Rattle.histories.specs.Answers.{Answer, done, accepted}
-use Rattle.store.specs.Answers.{refusal}
+use Rattle.book.specs.Calls.{Call, edits, opens}
+use Rattle.book.specs.Edits.{Edit, requests}
+use Rattle.book.specs.Rules.{changed, says}
+use Rattle.book.specs.Answers.{Answer, done, accepted}
+use Rattle.book.specs.EditAnswers.{refusal}
 use Rattle.fillets.specs.declared.fillet.FilletFault.{FilletFault}
 use Rattle.fillets.specs.declared.fillet.FilletFault.TheVariants.{TooThin, InBook}
-use Rattle.store.specs.Plain.{plain}
-use Rattle.store.specs.Books.{PlainBook}
+use Rattle.book.specs.Plain.{plain}
+use Rattle.book.specs.Books.{PlainBook}
 
 -- How many faces a fillet waits for.
 abbrev pub faces_needed : ℕ

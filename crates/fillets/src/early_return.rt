@@ -1,8 +1,8 @@
 // A fillet that may fail while its group is open.
 ghost use Rattle.std.specs.Prelude.{◌≡◌, is_ok, if◌then◌else◌};
-ghost use Rattle.histories.specs.Rules.{changed};
+ghost use Rattle.book.specs.Rules.{changed};
 ghost use Rattle.fillets.specs.Fillets.{waits_for_faces, told_fillet, fillet_comes};
-ghost use Rattle.store.specs.Plain.{plain};
+ghost use Rattle.book.specs.Plain.{plain};
 
 use crate::fillet::{FACES, FilletFault};
 use book::Book;

@@ -1,6 +1,6 @@
 // What the tests share: scripts run on a book, with their ends told by numbers, as the rules tell them.
 ghost use Rattle.std.specs.Prelude.{◌≡◌, length};
-ghost use Rattle.histories.specs.Rules.{SameGroups};
+ghost use Rattle.book.specs.Rules.{SameGroups};
 
 use book::{Book, FinishedScript, Old, PlainRow, StoppedScript, Table};
 use carriers::{Carrier, Kind, Message, QueueCarrier, Wait};

@@ -1,6 +1,6 @@
 // Each fault at the first, a middle and the last command.
 ghost use Rattle.std.specs.Prelude.{◌≡◌, length};
-ghost use Rattle.histories.specs.Rules.{SameGroups};
+ghost use Rattle.book.specs.Rules.{SameGroups};
 
 use crate::common::*;
 use arrayvec::ArrayVec;

@@ -1,6 +1,6 @@
 // Groups of a script, and those of its book.
 ghost use Rattle.std.specs.Prelude.{◌≡◌, length};
-ghost use Rattle.histories.specs.Rules.{SameGroups};
+ghost use Rattle.book.specs.Rules.{SameGroups};
 
 use crate::common::*;
 use book::{Book, DEPTH_MAX};

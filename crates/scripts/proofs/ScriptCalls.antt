@@ -9,7 +9,7 @@ use Rattle.histories.specs.Answers.{accepted}
 use Rattle.histories.specs.Calls.{Call, edits, opens, cancels, ends}
 use Rattle.histories.specs.Histories.{depth_after}
 use Rattle.histories.specs.Subjects.{Subject, of_book}
-use Rattle.store.specs.Calls.{Edit}
+use Rattle.store.specs.Edits.{Edit}
 use Rattle.scripts.specs.Commands.{Command, makes, opening, ending, detecting, whole, head}
 use Rattle.scripts.specs.Lent.{Lent}
 use Rattle.scripts.specs.Scripts.{Progress, CarriesOut, edited, opened, ended, answered, carries, stops, strange, Reads, finishes, faults, steps, cancel_groups, start, script_answer, Worked, Refused, Scripted}

@@ -9,7 +9,7 @@ use Rattle.scripts.specs.declared.fault.StoppedScript.{StoppedScript}
 use Rattle.scripts.specs.declared.fault.FinishedScript.{FinishedScript}
 use Rattle.scripts.specs.declared.tally.Position.{Position}
 use Rattle.histories.specs.Rules.{says, after}
-use Rattle.store.specs.Calls.{Edit}
+use Rattle.store.specs.Edits.{Edit}
 use Rattle.histories.specs.Calls.{edits, opens, cancels, ends}
 use Rattle.scripts.specs.Commands.{Command}
 use Rattle.histories.specs.Histories.{face_of, fed}

@@ -6,9 +6,9 @@ use Rattle.store.specs.declared.fault.BookFault.{BookFault}
 use Rattle.scripts.specs.declared.fault.ScriptFault.{ScriptFault}
 use Rattle.scripts.specs.declared.tally.Tally.{Tally}
 use Rattle.histories.specs.Answers.{done, accepted}
-use Rattle.store.specs.Answers.{refusal}
+use Rattle.store.specs.EditAnswers.{refusal}
 use Rattle.histories.specs.Rules.{says, after, changed}
-use Rattle.store.specs.Calls.{Edit}
+use Rattle.store.specs.Edits.{Edit}
 use Rattle.histories.specs.Calls.{Call, edits}
 use Rattle.histories.specs.Histories.{Called}
 use Rattle.scripts.specs.Commands.{Command, makes}

@@ -5,7 +5,7 @@ use Rattle.groups.specs.History.{History}
 use Rattle.histories.specs.Rules.{Terms}
 use Rattle.histories.specs.Subjects.{Subject, View, of_book, of_history}
 use Rattle.lives.specs.Events.{Event, special, Does, Life}
-use Rattle.store.specs.Calls.{Edit}
+use Rattle.store.specs.Edits.{Edit}
 use Rattle.scripts.specs.Lent.{Lent}
 use Rattle.store.specs.Plain.{plain}
 use Rattle.scripts.specs.ScriptCalls.{CountsAs}

@@ -1,7 +1,7 @@
 -- A script that is run on a book.
 use Rattle.std.specs.Prelude.{ℕ, List, Ok, Err, Result}
 use Rattle.groups.specs.History.{History}
-use Rattle.store.specs.Calls.{Edit}
+use Rattle.store.specs.Edits.{Edit}
 use Rattle.histories.specs.Rules.{terms}
 use Rattle.histories.specs.Histories.{Shows}
 use Rattle.scripts.specs.Lent.{Lent}

@@ -10,7 +10,7 @@ use Rattle.detection.specs.declared.verdict.Verdict.TheVariants.{Stuck, Free}
 use Rattle.rows.specs.Waiting.{Waiting}
 use Rattle.groups.specs.declared.store.Ending.{Ending}
 use Rattle.histories.specs.Answers.{done, ticket, stopped}
-use Rattle.store.specs.Calls.{Edit}
+use Rattle.store.specs.Edits.{Edit}
 use Rattle.histories.specs.Calls.{Call, edits, opens, cancels, ends}
 use Rattle.scripts.specs.Commands.{Command, makes, opening, ending, detecting, Head, over, unknown, cut, whole, head}
 use Rattle.scripts.specs.Lent.{Lent}

@@ -1,12 +1,12 @@
 -- The small books, and the table of what is to come of them.
 use Rattle.std.specs.Prelude.{ℕ, Bool, true, false, List, [], ◌∷◌, None}
 use Rattle.rows.specs.Waiting.{Waiting, idle}
-use Rattle.histories.specs.Answers.{Answer, done, ticket, stopped}
-use Rattle.histories.specs.Rules.{after}
-use Rattle.histories.specs.Calls.{Call, edits, opens, cancels}
-use Rattle.store.specs.Calls.{Edit, requests, grants}
-use Rattle.store.specs.Plain.{plain}
-use Rattle.store.specs.Books.{PlainBook, book_of}
+use Rattle.book.specs.Answers.{Answer, done, ticket, stopped}
+use Rattle.book.specs.Rules.{after}
+use Rattle.book.specs.Calls.{Call, edits, opens, cancels}
+use Rattle.book.specs.Edits.{Edit, requests, grants}
+use Rattle.book.specs.Plain.{plain}
+use Rattle.book.specs.Books.{PlainBook, book_of}
 
 -- The row of a job that needs so many of some targets.
 abbrev pub needs : (need : ℕ) (targets : List ℕ) → Waiting

@@ -4,9 +4,9 @@ use Rattle.std.specs.List.{AllByRecursion}
 use Rattle.carriers.specs.declared.message.Message.{Message}
 use Rattle.exchange.specs.Records.{blank}
 use Rattle.exchange.specs.Runs.{RunState, Exchange}
-use Rattle.histories.specs.Rules.{says, after}
+use Rattle.book.specs.Rules.{says, after}
 use Rattle.small_books.specs.Books.{RunLine, CallLine, Line, of_run, of_call, table}
-use Rattle.store.specs.Plain.{plain}
+use Rattle.book.specs.Plain.{plain}
 
 -- Every run that is over has had so many deliveries, in whatever order they came, and leaves the initiator free or not, as told;
 -- and there is such a run.

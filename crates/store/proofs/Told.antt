@@ -19,11 +19,11 @@ use Rattle.groups.specs.State.{State, face, full, written, opened}
 use Rattle.store.specs.declared.fault.BookFault.{BookFault}
 use Rattle.store.specs.declared.fault.BookFault.TheVariants.{NoSuchJob, Blocked, WrongCounts, TrailFull, GranterBlocked, NoSuchWait, TooDeep}
 use Rattle.store.specs.Faults.{of_row}
-use Rattle.store.specs.Calls.{Edit, requests, grants}
+use Rattle.store.specs.Edits.{Edit, requests, grants}
 use Rattle.histories.specs.Calls.{edits, opens}
 use Rattle.histories.specs.Rules.{says, book_state}
 use Rattle.histories.specs.Answers.{Answer, done}
-use Rattle.store.specs.Answers.{refusal, refused_at}
+use Rattle.store.specs.EditAnswers.{refusal, refused_at}
 use Rattle.store.specs.Views.{told, told_stub}
 use Rattle.histories.specs.Histories.{Called}
 use Rattle.store.specs.Memory.{Lawful}

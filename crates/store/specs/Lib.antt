@@ -1,6 +1,6 @@
 pub mod Books
-pub mod Calls
-pub mod Answers
+pub mod Edits
+pub mod EditAnswers
 pub mod Plain
 pub mod Creation
 pub mod Faults

@@ -6,9 +6,9 @@ use Rattle.store.specs.declared.calls.Edit.TheVariants.{Grant, Request}
 use Rattle.store.specs.declared.fault.BookFault.{BookFault}
 use Rattle.store.specs.declared.fault.RefusedStub.{RefusedStub}
 use Rattle.store.specs.Faults.{number}
-use Rattle.store.specs.Calls.{requests, grants, Edit as EditCall}
+use Rattle.store.specs.Edits.{requests, grants, Edit as EditCall}
 use Rattle.histories.specs.Answers.{Answer, done, ticket, returned}
-use Rattle.store.specs.Answers.{refusal}
+use Rattle.store.specs.EditAnswers.{refusal}
 
 -- Of an edit: done, or its refusal.
 abbrev pub told : Result (Unit {0}) BookFault → Answer

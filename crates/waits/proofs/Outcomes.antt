@@ -5,18 +5,18 @@ use Rattle.carriers.specs.Parts.{new_carrier}
 use Rattle.carriers.specs.Meaning.{Carried}
 use Rattle.exchange.specs.Records.{blank}
 use Rattle.exchange.specs.declared.record.RunRecord.{RunRecord}
-use Rattle.histories.specs.Rules.{terms}
-use Rattle.histories.specs.Histories.{Shows}
-use Rattle.scripts.specs.ScriptRuns.{RanScript}
-use Rattle.scripts.specs.Lent.{lent}
-use Rattle.scripts.specs.Scripts.{Scripted}
-use Rattle.histories.specs.Subjects.{of_history}
-use Rattle.scripts.specs.declared.fault.StoppedScript.{StoppedScript}
-use Rattle.scripts.specs.declared.fault.FinishedScript.{FinishedScript}
+use Rattle.book.specs.Rules.{terms}
+use Rattle.book.specs.Histories.{Shows}
+use Rattle.book.specs.ScriptRuns.{RanScript}
+use Rattle.book.specs.Lent.{lent}
+use Rattle.book.specs.Scripts.{Scripted}
+use Rattle.book.specs.Subjects.{of_history}
+use Rattle.book.specs.StoppedScript.{StoppedScript}
+use Rattle.book.specs.FinishedScript.{FinishedScript}
 use Rattle.waits.specs.Outcome.{ComesOut}
-use Rattle.store.specs.Plain.{plain}
-use Rattle.store.specs.Books.{PlainBook}
-use Rattle.store.specs.Creation.{new_book}
+use Rattle.book.specs.Plain.{plain}
+use Rattle.book.specs.Books.{PlainBook}
+use Rattle.book.specs.Creation.{new_book}
 
 pub comes_out : {s s' : PlainBook} {was records : List RunRecord} {before carrier : Carried} {script bytes bytes' : List ℕ} {a : Result FinishedScript StoppedScript}
     → s ≡ new_book 256 7 1024 → Shows plain s begun → was ≡ replicate 256 blank → before ≡ new_carrier 8192 → RanScript s (lent was before bytes) script a s' (lent records carrier bytes')

@@ -5,19 +5,19 @@ use Rattle.exchange.specs.Records.{blank}
 use Rattle.exchange.specs.declared.record.RunRecord.{RunRecord}
 use Rattle.carriers.specs.Meaning.{Carried}
 use Rattle.groups.specs.History.{History, begun}
-use Rattle.store.specs.Calls.{Edit}
-use Rattle.histories.specs.Rules.{Terms}
-use Rattle.scripts.specs.Scripts.{Scripted}
-use Rattle.scripts.specs.Lent.{lent}
-use Rattle.histories.specs.Subjects.{of_history}
-use Rattle.scripts.specs.declared.fault.StoppedScript.{StoppedScript}
-use Rattle.scripts.specs.declared.fault.FinishedScript.{FinishedScript}
+use Rattle.book.specs.Edits.{Edit}
+use Rattle.book.specs.Rules.{Terms}
+use Rattle.book.specs.Scripts.{Scripted}
+use Rattle.book.specs.Lent.{lent}
+use Rattle.book.specs.Subjects.{of_history}
+use Rattle.book.specs.StoppedScript.{StoppedScript}
+use Rattle.book.specs.FinishedScript.{FinishedScript}
 use Rattle.tables.specs.Tables.{jobs_max, waits_max}
 use Rattle.groups.specs.Limits.{trail_max}
 use Rattle.exchange.specs.Bounds.{capacity_per_wait}
-use Rattle.store.specs.Creation.{new_terms}
-use Rattle.store.specs.Plain.{plain}
-use Rattle.store.specs.Books.{Fixed}
+use Rattle.book.specs.Creation.{new_terms}
+use Rattle.book.specs.Plain.{plain}
+use Rattle.book.specs.Books.{Fixed}
 
 -- How many jobs the program's book has.
 abbrev pub program_jobs : ℕ

@@ -1,6 +1,6 @@
 // Running a script on a new book.
 ghost use Rattle.std.specs.Prelude.{◌≡◌, ◌≤◌, length};
-ghost use Rattle.scripts.specs.ScriptRuns.{script_written};
+ghost use Rattle.book.specs.ScriptRuns.{script_written};
 ghost use Rattle.waits.specs.Outcome.{ComesOut};
 
 use book::{Book, FinishedScript, JOBS_MAX, Old, PlainRow, StoppedScript, TRAIL_MAX, WAITS_MAX};

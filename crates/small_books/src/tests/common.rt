@@ -1,5 +1,5 @@
 // The small books as rows, and as books.
-ghost use Rattle.histories.specs.Rules.{SameGroups};
+ghost use Rattle.book.specs.Rules.{SameGroups};
 
 use book::{Book, Old, PlainRow};
 use carriers::{Kind, Message, Wait};

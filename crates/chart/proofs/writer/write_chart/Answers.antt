@@ -35,5 +35,5 @@ returns-clause-reads_back g c =
     let table = is_table g (goal.at.returns-clause-reads_back g c).After-jobs-jobs in
     let end : n * 18 ≡ 18 * c.loop-job.job = omega arith in
     let whole : take (n * 18) c.loop-job.bytes ≡ bytes_of_rows rows =
-        ap (λ k. take k c.loop-job.bytes) end ∙ c.loop-job.invariant.written ∙ ap bytes_of_rows (take_all c.loop-job.job rows (omega (arith, c.jobs-jobs.ensures.value))) in
+    ap (λ k. take k c.loop-job.bytes) end ∙ c.loop-job.invariant.written ∙ ap bytes_of_rows (take_all c.loop-job.job rows (omega (arith, c.jobs-jobs.ensures.value))) in
     rw whole (table_reads_back rows table)

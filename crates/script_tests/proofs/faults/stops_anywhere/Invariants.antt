@@ -1,4 +1,4 @@
-use Rattle.histories.specs.Rules.{SameGroups}
+use Rattle.book.specs.Rules.{SameGroups}
 use Rattle.script_tests.proofs.faults.stops_anywhere.Given as goal
 
 abbrev pub invariant-loop-before : goal.invariant-loop-before

@@ -7,7 +7,7 @@ use Rattle.histories.specs.Answers.{Answer, done, stopped, trail_full}
 use Rattle.histories.specs.Rules.{Terms}
 use Rattle.store.specs.declared.fault.BookFault.{BookFault}
 use Rattle.store.specs.Faults.{number, value}
-use Rattle.store.specs.Calls.{Edit, requests, grants}
+use Rattle.store.specs.Edits.{Edit, requests, grants}
 use Rattle.store.specs.Books.{Fixed}
 
 -- A refusal, by its number and value.
