@@ -7,7 +7,7 @@ use Rattle.carriers.specs.Meaning.{Carried}
 use Rattle.exchange.specs.declared.record.RunRecord.{RunRecord}
 use Rattle.lives.specs.Events.{begins, lives}
 use Rattle.store.specs.Creation.{new_book, new_terms}
-use Rattle.scripts.specs.Events.{BookEvent, LifeOfBook}
+use Rattle.book.specs.Events.{BookEvent, LifeOfBook}
 use Rattle.scripts.specs.Lent.{Lent, lent}
 use Rattle.book.specs.Moments.{answer_at, seen_at, written_by, AreEvents, nothing, then, Lived}
 use Rattle.book.specs.Performing.{Performed}

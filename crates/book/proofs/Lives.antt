@@ -1,6 +1,6 @@
 -- Whatever happens to a plain book happens to the history that it shows.
-use Rattle.lives.proofs.Lives.{Follows, law_of_lives}
-use Rattle.scripts.specs.Events.{RunsOnBook, RunsOnHistory}
+use Rattle.lives.proofs.Lives.{HappensToHistory, law_of_lives}
+use Rattle.book.specs.Events.{RunsOnBook, RunsOnHistory}
 use Rattle.book.specs.Law.{LawOfPlainBooks}
 use Rattle.store.specs.Plain.{plain}
 use Rattle.histories.specs.Subjects.{of_history}
@@ -9,7 +9,7 @@ use Rattle.scripts.proofs.ScriptCalls.{scripted_counts}
 use Rattle.scripts.proofs.Simulated.{scripted_so}
 
 -- scripts do
-pub scripts_follow : Follows plain RunsOnBook RunsOnHistory
+pub scripts_follow : HappensToHistory plain RunsOnBook RunsOnHistory
 scripts_follow t s s' h r w k =
     let f = scripted_so t r.before r.after r.script r.answer w k in
     (f.0, record { does = f.1; counts = scripted_counts (of_history plain t) (of_history_counts plain t) r.before r.after r.script r.answer f.1 }, f.2)

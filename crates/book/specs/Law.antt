@@ -7,7 +7,7 @@ use Rattle.histories.specs.Calls.{Call, edits}
 use Rattle.histories.specs.Rules.{says, changed}
 use Rattle.lives.specs.Law.{LawOfLives}
 use Rattle.store.specs.Edits.{Edit, grants}
-use Rattle.scripts.specs.Events.{RunsOnBook, RunsOnHistory}
+use Rattle.book.specs.Events.{RunsOnBook, RunsOnHistory}
 use Rattle.store.specs.Plain.{plain}
 use Rattle.store.specs.Books.{PlainBook}
 

@@ -1,3 +1,4 @@
+pub mod Events
 pub mod Law
 pub mod Moments
 pub mod Performing

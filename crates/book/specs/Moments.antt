@@ -11,7 +11,7 @@ use Rattle.detection.specs.declared.verdict.Detection.{Detection}
 use Rattle.store.specs.Edits.{Edit}
 use Rattle.histories.specs.Calls.{edits, opens, ends}
 use Rattle.lives.specs.Events.{made, detected}
-use Rattle.scripts.specs.Events.{BookEvent, scripted, LifeOfBook, LifeOfHistory}
+use Rattle.book.specs.Events.{BookEvent, scripted, LifeOfBook, LifeOfHistory}
 use Rattle.store.specs.Creation.{new_book, new_terms}
 use Rattle.scripts.specs.Lent.{Lent}
 use Rattle.scripts.specs.ScriptRuns.{script_written}

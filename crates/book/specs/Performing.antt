@@ -1,7 +1,7 @@
 -- A call of a life that is made on a book.
 use Rattle.scripts.specs.Lent.{Lent}
 use Rattle.book.specs.Moments.{IsEvent}
-use Rattle.scripts.specs.Events.{BookEvent, DoesOnBook}
+use Rattle.book.specs.Events.{BookEvent, DoesOnBook}
 use Rattle.book.specs.declared.life.call.Answer.{Answer}
 use Rattle.book.specs.declared.life.call.Call.{Call}
 use Rattle.store.specs.Books.{PlainBook}

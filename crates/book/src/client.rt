@@ -26,7 +26,7 @@ use std::marker::Model;
 use store::{BookFault, RefusedStub, Snapshot, Store};
 use tables::{Table, TwoWayTable};
 
-// A book, whose store is nobody else's.
+/// A book, whose store is nobody else's.
 #[derive(Drop)]
 pub struct Book<'a> {
     store: Store<'a>,
@@ -41,8 +41,8 @@ impl<'a> Model for Book<'a> {
 }
 
 impl<'a> Book<'a> {
-    // A book in which every job is active. Its tickets will carry the mark, and what its groups would undo lies in the
-    // lent memory. Where more than 256 jobs are asked for, it has none.
+    /// A book in which every job is active. Its tickets will carry the mark, and what its groups would undo lies in the
+    /// lent memory. Where more than 256 jobs are asked for, it has none.
     pub fn new(jobs: usize, mark: u16, memory: &'a mut [Old<PlainRow>]) -> Book<'a>
         ensures value { result ≡ new_book jobs mark (length memory.old) }
         ensures shows { Shows plain result begun }
@@ -52,22 +52,22 @@ impl<'a> Book<'a> {
         }
     }
 
-    // A request: an active job waits for `need` of the targets, which are listed by rising number.
+    /// A request: an active job waits for `need` of the targets, which are listed by rising number.
     pub fn request(&mut self, job: usize, need: u8, targets: &[u8]) -> Result<(), BookFault>
         ensures { Called plain self.old (edits (requests job need targets.now)) (told result) self.new }
     {
         self.store.request(job, need, targets)
     }
 
-    // A grant: the waiter no longer waits for the granter, which is active, and needs one less; when it needs none, its
-    // other waits go too.
+    /// A grant: the waiter no longer waits for the granter, which is active, and needs one less; when it needs none, its
+    /// other waits go too.
     pub fn grant(&mut self, granter: usize, waiter: usize) -> Result<(), BookFault>
         ensures { Called plain self.old (edits (grants granter waiter)) (told result) self.new }
     {
         self.store.grant(granter, waiter)
     }
 
-    // Opens a group inside the others. Its ticket must be handed back, by keeping the group or by cancelling it.
+    /// Opens a group inside the others. Its ticket must be handed back, by keeping the group or by cancelling it.
     pub fn open(&mut self) -> Result<Ticket, BookFault>
         ensures called { Called plain self.old opens (told_opening result) self.new }
         ensures given { length self.old.state.groups < depth_max → IsOk result }
@@ -79,8 +79,8 @@ impl<'a> Book<'a> {
         }
     }
 
-    // Ends the innermost group, and its edits stay, undone only if the group around it is cancelled. A ticket that is
-    // not the innermost group's comes back.
+    /// Ends the innermost group, and its edits stay, undone only if the group around it is cancelled. A ticket that is
+    /// not the innermost group's comes back.
     pub fn keep(&mut self, ticket: Ticket) -> Result<(), RefusedEnding>
         ensures called { Called plain self.old (keeps ticket.mark ticket.depth) (told_ending result) self.new }
         ensures taken { ticket.mark ≡ self.old.state.mark → ticket.depth ≡ length self.old.state.groups → 0 < ticket.depth → IsOk result }
@@ -88,8 +88,8 @@ impl<'a> Book<'a> {
         self.end(Ending::Keep, ticket)
     }
 
-    // Ends the innermost group, and every row is as it was when the group was opened. A ticket that is not the innermost
-    // group's comes back.
+    /// Ends the innermost group, and every row is as it was when the group was opened. A ticket that is not the innermost
+    /// group's comes back.
     pub fn cancel(&mut self, ticket: Ticket) -> Result<(), RefusedEnding>
         ensures called { Called plain self.old (cancels ticket.mark ticket.depth) (told_ending result) self.new }
         ensures taken { ticket.mark ≡ self.old.state.mark → ticket.depth ≡ length self.old.state.groups → 0 < ticket.depth → IsOk result }
@@ -110,14 +110,14 @@ impl<'a> Book<'a> {
         }
     }
 
-    // What is seen of the book.
+    /// What is seen of the book.
     pub fn snapshot(&self) -> Snapshot
         ensures { snapshot_view result ≡ view_of (of_book plain) self.now }
     {
         self.store.snapshot()
     }
 
-    // How many groups are open.
+    /// How many groups are open.
     pub fn depth(&self) -> usize
         ensures value { result ≡ length self.now.state.groups }
         ensures bound { result ≤ depth_max }

@@ -14,7 +14,7 @@ bytes_of_row w = w.need ∷ length w.targets ∷ places_of w.targets
 abbrev pub bytes_of_rows : List Waiting → List ℕ
 bytes_of_rows rows = flat_map bytes_of_row rows
 
--- The check counts the jobs, but where there are none: it refuses no bytes with 18.
+-- The check counts the jobs. Where there are none there are no bytes, which it refuses with 18.
 abbrev pub counted : (jobs : ℕ) → Result ℕ Refusal
 counted jobs = cond (jobs == 0) (Err (refused 18 None)) (Ok jobs)
 

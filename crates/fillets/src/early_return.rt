@@ -7,8 +7,8 @@ ghost use Rattle.book.specs.Plain.{plain};
 use crate::fillet::{FACES, FilletFault};
 use book::Book;
 
-// Lets a fillet wait for the faces at its edge, in a group of its own. On a thin edge it fails, and the group is
-// cancelled: whenever it is not made, the book is as it was. Thin or not is how the edge is, and nothing for a caller to choose.
+/// Lets a fillet wait for the faces at its edge, in a group of its own. On a thin edge it fails, and the group is
+/// cancelled: whenever it is not made, the book is as it was. Thin or not is how the edge is, and nothing for a caller to choose.
 pub fn round_edge(
     book: &mut Book,
     fillet: usize,

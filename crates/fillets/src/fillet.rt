@@ -4,10 +4,10 @@ ghost use Rattle.fillets.specs.declared.fillet.FilletFault.TheVariants.{InBook};
 
 use book::BookFault;
 
-// A fillet waits for both faces at its edge: a count, and no code.
+/// A fillet waits for both faces at its edge: a count, and no code.
 pub const FACES: u8 = 2;
 
-// The edge is too thin for it, or the book refuses a call.
+/// The edge is too thin for it, or the book refuses a call.
 #[derive(Clone, Copy, PartialEq, Eq, Debug)]
 pub enum FilletFault {
     TooThin,

@@ -5,8 +5,8 @@ ghost use Rattle.fillets.specs.Fillets.{waits_for_faces, told_fillet, twice_come
 use crate::fillet::{FACES, FilletFault};
 use book::Book;
 
-// Keeps a fillet's wait for its faces, and tries a second one in a group of its own, which is cancelled: the book is left
-// with the first alone.
+/// Keeps a fillet's wait for its faces, and tries a second one in a group of its own, which is cancelled: the book is left
+/// with the first alone.
 pub fn round_twice(
     book: &mut Book,
     first: usize,

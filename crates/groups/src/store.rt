@@ -5,23 +5,23 @@ use arrayvec::ArrayVec;
 use containers::{Full, Stack};
 use std::marker::Model;
 
-// How many rows there are: one for each number of a byte.
+/// How many rows there are: one for each number of a byte.
 pub const ROWS: usize = 256;
 
-// How many groups are open at most, one in another.
+/// How many groups are open at most, one in another.
 pub const DEPTH_MAX: usize = 8;
 
-// How many old rows the trail holds at most, however much memory is lent.
+/// How many old rows the trail holds at most, however much memory is lent.
 pub const TRAIL_MAX: usize = 1024;
 
-// What stood in the row of a job before a write.
+/// What stood in the row of a job before a write.
 #[derive(Clone, Copy)]
 pub struct Old<P> {
     pub job: u8,
     pub row: P,
 }
 
-// The refusal of a write: the trail has no room for the old row.
+/// The refusal of a write: the trail has no room for the old row.
 #[derive(Clone, Copy, Drop, PartialEq, Eq, Debug)]
 pub struct TrailFull;
 
@@ -31,22 +31,22 @@ impl From<Full> for TrailFull {
     }
 }
 
-// Which group an ending is meant for, by the mark of its groups and by how many of them are open with it.
+/// Which group an ending is meant for, by the mark of its groups and by how many of them are open with it.
 #[derive(Clone, Copy, Drop, PartialEq, Eq, Debug)]
 pub struct Stub {
     pub mark: u16,
     pub depth: u8,
 }
 
-// How a group ends.
+/// How a group ends.
 #[derive(Clone, Copy, Drop, PartialEq, Eq, Debug)]
 pub enum Ending {
     Keep,
     Cancel,
 }
 
-// The rows; the trail, old rows in lent memory; where each open group's part of the trail begins, the innermost last; and the
-// mark of the stubs.
+/// The rows; the trail, old rows in lent memory; where each open group's part of the trail begins, the innermost last; and the
+/// mark of the stubs.
 #[derive(Drop)]
 pub struct Groups<'a, P> {
     rows: [P; ROWS],

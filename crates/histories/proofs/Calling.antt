@@ -11,20 +11,20 @@ use Rattle.histories.specs.Answers.{Answer, done, ticket, accepted, trail_full, 
 use Rattle.histories.specs.Calls.{Call, edits, opens, keeps, cancels, ends}
 use Rattle.histories.specs.Histories.{Called}
 use Rattle.histories.specs.Rules.{BookState, book_state, Rules, says, changed}
-use Rattle.histories.specs.Told.{told_stub, told_return}
+use Rattle.histories.proofs.StubAnswers.{stub_answer, ending_answer_of}
 use Rattle.histories.proofs.Following.{called}
 
 -- a face decides the same where it counts the same
 full_same : {P Q : Type 0} (room : ℕ) (f : Face P) (f' : Face Q) → f.depth ≡ f'.depth → f.used ≡ f'.used → full room f ≡ full room f'
 full_same room f f' d u = rw (d, u)
 
-open_told : (q : Bool) (m d d' : ℕ) → d ≡ d' → told_stub (cond {A = Option Stub} q (Some (record { mark = m; depth = d + 1 })) None) ≡ cond q (ticket m (d' + 1)) too_deep
+open_told : (q : Bool) (m d d' : ℕ) → d ≡ d' → stub_answer (cond {A = Option Stub} q (Some (record { mark = m; depth = d + 1 })) None) ≡ cond q (ticket m (d' + 1)) too_deep
 open_told true m d d' f = ap (λ n. ticket m (n + 1)) f
 open_told false m d d' f = refl
 
-end_told : (q : Bool) (k : Stub) (r : Result (Unit {0}) Stub) → r ≡ cond q (Ok tt) (Err k) → told_return r ≡ cond q done (not_innermost k.mark k.depth)
-end_told true k r e = ap told_return e
-end_told false k r e = ap told_return e
+end_told : (q : Bool) (k : Stub) (r : Result (Unit {0}) Stub) → r ≡ cond q (Ok tt) (Err k) → ending_answer_of r ≡ cond q done (not_innermost k.mark k.depth)
+end_told true k r e = ap ending_answer_of e
+end_told false k r e = ap ending_answer_of e
 
 module _ {Q E K : Type 0} (R : Rules Q E K) where
   -- a call that is accepted or refused by one test
@@ -70,15 +70,15 @@ module _ {P : Type 0} (n : ℕ) {Q : Type 0} (f : P → Q) where
   seen_if fixed false s t = refl
 
   module _ {E K : Type 0} (R : Rules Q E K) (fixed : K) (s t : State P) where
-    pub open_called : (r : Option Stub) → r ≡ cond (ltb (face s).depth 8) (Some (record { mark = s.mark; depth = (face s).depth + 1 })) None → t ≡ cond (ltb (face s).depth 8) (opened s) s → Called R (seen fixed s) opens (told_stub r) (seen fixed t)
+    pub open_called : (r : Option Stub) → r ≡ cond (ltb (face s).depth 8) (Some (record { mark = s.mark; depth = (face s).depth + 1 })) None → t ≡ cond (ltb (face s).depth 8) (opened s) s → Called R (seen fixed s) opens (stub_answer r) (seen fixed t)
     open_called r e g =
         let d = view_depth n f s in
         let q = ltb (face s).depth 8 in
         by_test R (seen fixed s) (seen fixed t) (book_state fixed (opened (view n f s))) opens _ (ticket s.mark ((face (view n f s)).depth + 1)) too_deep (ltb (face (view n f s)).depth 8) q refl refl refl (ap (λ k. ltb k 8) d) refl
-        (ap told_stub e ∙ open_told q s.mark (face s).depth (face (view n f s)).depth (sym d))
+        (ap stub_answer e ∙ open_told q s.mark (face s).depth (face (view n f s)).depth (sym d))
         (ap (seen fixed) g ∙ seen_if fixed q (opened s) s)
 
-    pub end_called : n ≤ length s.rows → (e : Ending) (k : Stub) (r : Result (Unit {0}) Stub) → r ≡ cond (fits s k) (Ok tt) (Err k) → t ≡ cond (fits s k) (ended_as e s) s → Called R (seen fixed s) (ends e k.mark k.depth) (told_return r) (seen fixed t)
+    pub end_called : n ≤ length s.rows → (e : Ending) (k : Stub) (r : Result (Unit {0}) Stub) → r ≡ cond (fits s k) (Ok tt) (Err k) → t ≡ cond (fits s k) (ended_as e s) s → Called R (seen fixed s) (ends e k.mark k.depth) (ending_answer_of r) (seen fixed t)
     end_called l Keep k r e g =
         by_test R (seen fixed s) (seen fixed t) (seen fixed (kept s)) (keeps k.mark k.depth) _ done (not_innermost k.mark k.depth) _ (fits s k) refl refl refl (fits_seen s k) (ap (book_state fixed) (sym (view_kept n f s)))
         (end_told (fits s k) k r e)

@@ -1,3 +1,4 @@
 pub mod Following
 pub mod Standing
 pub mod Calling
+pub mod StubAnswers

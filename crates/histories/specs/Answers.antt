@@ -15,13 +15,14 @@ accepted (ticket mark depth) = true
 accepted (stopped number value) = false
 accepted (returned number mark depth) = false
 
--- The refusals that every kind of book has: 8, eight groups are open; 9, the ticket is not the innermost group's.
+-- 8, for an opening: eight groups are open.
 abbrev pub too_deep : Answer
 too_deep = stopped 8 None
 
+-- 9, for an ending: the ticket is not the innermost group's; it comes back.
 abbrev pub not_innermost : (mark depth : ℕ) → Answer
 not_innermost mark depth = returned 9 mark depth
 
--- And 5, the trail is full.
+-- 5, for the edits of any kind of book: the trail is full.
 abbrev pub trail_full : Answer
 trail_full = stopped 5 None

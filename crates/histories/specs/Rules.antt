@@ -6,14 +6,14 @@ use Rattle.histories.specs.Answers.{Answer, done, ticket, accepted, too_deep, no
 use Rattle.histories.specs.Calls.{Call, edits, opens, keeps, cancels}
 
 -- What creation fixes of a book: how many jobs it has, the mark of its tickets, how many records its trail has, and what this kind of book
--- fixes besides, as limits.
+-- fixes besides, for instance limits.
 pub record Terms (K : Type 0) : Type 0 where
   pub jobs : ℕ
   pub mark : ℕ
   pub room : ℕ
   pub fixed : K
 
--- A book: what its kind has fixed, and its rows under groups, which know its mark and its trail.
+-- A book: what its creation has fixed besides size, mark and trail; and its rows under groups, which know the rest.
 pub record BookState (P K : Type 0) : Type 0 where
   pub fixed : K
   pub state : State P

@@ -9,7 +9,7 @@ use Rattle.histories.specs.Histories.{Called}
 use Rattle.histories.specs.Subjects.{of_book, of_history, View}
 use Rattle.histories.proofs.Standing.{Stands, same_rows, same_answer, same_view, stands_after, fresh_stands}
 use Rattle.lives.specs.Events.{Event, made, Does, calls, detects, happens, Life, begins, lives}
-use Rattle.lives.specs.Law.{LawOfLives, LawOfPlainLives}
+use Rattle.lives.specs.Law.{LawOfLives, LawOfCallsAndDetections}
 
 module _ {P E K M : Type 0} (R : Rules P E K) (OnBook : BookState P K → M → BookState P K → Type 0) where
   -- a call, as it was promised
@@ -18,10 +18,10 @@ module _ {P E K M : Type 0} (R : Rules P E K) (OnBook : BookState P K → M → 
 
   module _ (OnHistory : Terms K → History E → M → History E → Type 0) where
     -- What only this kind of book knows happens to the history too.
-    abbrev pub Follows : Type 0
-    Follows = (t : Terms K) (s s' : BookState P K) (h : History E) (m : M) → Stands R t s h → OnBook s m s' → (i : History E) × OnHistory t h m i × Stands R t s' i
+    abbrev pub HappensToHistory : Type 0
+    HappensToHistory = (t : Terms K) (s s' : BookState P K) (h : History E) (m : M) → Stands R t s h → OnBook s m s' → (i : History E) × OnHistory t h m i × Stands R t s' i
 
-    module _ (follows : Follows) (t : Terms K) where
+    module _ (follows : HappensToHistory) (t : Terms K) where
       does_so : {s s' : BookState P K} {h : History E} {e : Event E M} → Stands R t s h → Does R (of_book R) OnBook s e s'
           → (i : History E) × Does R (of_history R t) (OnHistory t) h e i × Stands R t s' i
       does_so {h = h} w (calls {c = c}) = (_, rw (same_answer R t w c) calls, stands_after R t w c)
@@ -40,9 +40,9 @@ module _ {P E K M : Type 0} (R : Rules P E K) (OnBook : BookState P K → M → 
             after.2,
           )
 
-    pub law_of_lives : Follows → LawOfLives R OnBook OnHistory
+    pub law_of_lives : HappensToHistory → LawOfLives R OnBook OnHistory
     law_of_lives follows t = (refl, λ events views s l. let r = life_so follows t (fresh_stands R t) l in (r.0, r.1))
 
 -- where nothing happens but calls and detections
-pub law_of_plain_lives : {P E K : Type 0} (R : Rules P E K) → LawOfPlainLives R
-law_of_plain_lives R = law_of_lives R (λ s m s'. ⊥) (λ t h m h'. ⊥) (λ t s s' h m w k. absurd k)
+pub law_of_calls_and_detections : {P E K : Type 0} (R : Rules P E K) → LawOfCallsAndDetections R
+law_of_calls_and_detections R = law_of_lives R (λ s m s'. ⊥) (λ t h m h'. ⊥) (λ t s s' h m w k. absurd k)

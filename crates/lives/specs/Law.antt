@@ -15,5 +15,5 @@ LawOfLives {P} {E} {K} {M} R OnBook OnHistory = (t : Terms K)
     → (h : History E) × Life R (of_history R t) (OnHistory t) begun events views h)
 
 -- Of a book to which nothing happens but calls and detections.
-abbrev pub LawOfPlainLives : {P E K : Type 0} → Rules P E K → Type 0
-LawOfPlainLives R = LawOfLives {M = ⊥} R (λ s m s'. ⊥) (λ t h m h'. ⊥)
+abbrev pub LawOfCallsAndDetections : {P E K : Type 0} → Rules P E K → Type 0
+LawOfCallsAndDetections R = LawOfLives {M = ⊥} R (λ s m s'. ⊥) (λ t h m h'. ⊥)

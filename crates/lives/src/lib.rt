@@ -2,9 +2,9 @@
 #![tactic(auto)]
 
 ghost use Rattle.histories.specs.Rules.{Rules};
-ghost use Rattle.lives.specs.Law.{LawOfPlainLives};
+ghost use Rattle.lives.specs.Law.{LawOfCallsAndDetections};
 
-// Whatever kind of book it is, of rows P and edits E: what happens to it happens to its history.
+/// Whatever kind of book it is, of rows P and edits E: what happens to it happens to its history.
 pub fn lives_follow<P, E, K>()
-    ensures { (R : Rules P E K) → LawOfPlainLives R }
+    ensures { (R : Rules P E K) → LawOfCallsAndDetections R }
 {}

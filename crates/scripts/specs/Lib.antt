@@ -7,4 +7,3 @@ pub mod Reading
 pub mod Working
 pub mod ScriptCalls
 pub mod ScriptRuns
-pub mod Events

@@ -36,20 +36,23 @@ script_layer (OfBook fault) = 1
 script_layer (OfDetection fault) = 2
 
 -- What a fault tells of its refusal: whose it is, its number and its value.
-pub record Refusal : Type 0 where
+pub record LayeredRefusal : Type 0 where
   pub layer : ℕ
   pub number : ℕ
   pub value : Option ℕ
 
-abbrev pub refusal_of : ScriptFault → Refusal
+-- That of a fault.
+abbrev pub refusal_of : ScriptFault → LayeredRefusal
 refusal_of fault = record { layer = script_layer fault; number = script_number fault; value = script_value fault }
 
--- A refusal by the script itself; one by the book; one by the detection. Only the book's may carry a value.
-abbrev pub by_script : (number : ℕ) → Refusal
+-- A refusal by the script itself. Only the book's may carry a value.
+abbrev pub by_script : (number : ℕ) → LayeredRefusal
 by_script number = record { layer = 0; number = number; value = None }
 
-abbrev pub by_book : (number : ℕ) → (value : Option ℕ) → Refusal
+-- One by the book.
+abbrev pub by_book : (number : ℕ) → (value : Option ℕ) → LayeredRefusal
 by_book number value = record { layer = 1; number = number; value = value }
 
-abbrev pub by_detection : (number : ℕ) → Refusal
+-- One by the detection.
+abbrev pub by_detection : (number : ℕ) → LayeredRefusal
 by_detection number = record { layer = 2; number = number; value = None }

@@ -17,7 +17,7 @@ use Rattle.scripts.specs.Lent.{Lent}
 use Rattle.scripts.specs.Limits.{script_max, detection_bytes}
 use Rattle.histories.specs.Subjects.{Subject}
 use Rattle.scripts.specs.declared.fault.ScriptFault.{ScriptFault}
-use Rattle.scripts.specs.ScriptFaults.{Refusal, refusal_of, by_script, by_book, by_detection}
+use Rattle.scripts.specs.ScriptFaults.{LayeredRefusal, refusal_of, by_script, by_book, by_detection}
 use Rattle.scripts.specs.declared.fault.StoppedScript.{StoppedScript}
 use Rattle.scripts.specs.declared.fault.FinishedScript.{FinishedScript}
 use Rattle.scripts.specs.declared.tally.Position.{Position}
@@ -43,7 +43,7 @@ abbrev pub with_answer : (bytes : List ℕ) (written : ℕ) → List ℕ → Lis
 with_answer bytes written answer = take written bytes ++ (answer ++ drop (written + length answer) bytes)
 
 -- Why bytes are no command. 14: the first is no command's letter. 15: they end inside the command.
-abbrev pub unreadable : Head → Option Refusal
+abbrev pub unreadable : Head → Option LayeredRefusal
 unreadable over = None
 unreadable unknown = Some (by_script 14)
 unreadable cut = Some (by_script 15)

@@ -3,7 +3,7 @@
 use groups::Ending;
 use store::Edit;
 
-// What a command asks for. An ending is of the innermost group.
+/// What a command asks for. An ending is of the innermost group.
 #[derive(Clone, Copy, Drop)]
 pub enum Command<'s> {
     Open,

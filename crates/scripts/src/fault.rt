@@ -4,7 +4,7 @@ mod tells;
 use detection::DetectionFault;
 use store::BookFault;
 
-// The faults of a script; those of the book and of the detection are carried whole.
+/// The faults of a script; those of the book and of the detection are carried whole.
 #[derive(Clone, Copy, Drop, PartialEq, Eq, Debug)]
 pub enum ScriptFault {
     TooLong,
@@ -16,7 +16,7 @@ pub enum ScriptFault {
     OfDetection(DetectionFault),
 }
 
-// A script that a fault has ended: where the command begins and which one it is, and how many answer bytes stay written.
+/// A script that a fault has ended: where the command begins and which one it is, and how many answer bytes stay written.
 #[derive(Clone, Copy, Drop, PartialEq, Eq, Debug)]
 pub struct StoppedScript {
     pub fault: ScriptFault,
@@ -25,7 +25,7 @@ pub struct StoppedScript {
     pub written: usize,
 }
 
-// A script that came to its end: the commands carried out, the groups cancelled at the end, and the answer bytes written.
+/// A script that came to its end: the commands carried out, the groups cancelled at the end, and the answer bytes written.
 #[derive(Clone, Copy, Drop, PartialEq, Eq, Debug)]
 pub struct FinishedScript {
     pub commands: usize,

@@ -2,7 +2,7 @@
 ghost use Rattle.std.specs.Prelude.{◌≡◌, if◌then◌else◌};
 ghost use Rattle.scripts.specs.Reading.{place_left};
 
-// Puts the reader back to where it stood first, unless the command that it has read since is accepted.
+/// Puts the reader back to where it stood first, unless the command that it has read since is accepted.
 pub struct PlaceGuard<'p> {
     pub place: &'p mut usize,
     pub first: usize,

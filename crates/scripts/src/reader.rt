@@ -41,7 +41,7 @@ fn request<'s>(script: &'s [u8], place: &mut usize) -> Result<Command<'s>, Scrip
     Ok(Command::Edit(Edit::Request { job, need, targets }))
 }
 
-// Reads a command whole.
+/// Reads a command whole.
 pub fn command<'s>(script: &'s [u8], place: &mut usize) -> Result<Command<'s>, ScriptFault>
     requires { place.old < length script.now }
     ensures { CommandRead head 0 script.now place.old place.new result }

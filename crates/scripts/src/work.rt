@@ -103,7 +103,7 @@ fn step<C: Carrier>(
     Ok(())
 }
 
-// Carries out the commands of a script, to its end or to the first fault.
+/// Carries out the commands of a script, to its end or to the first fault.
 pub fn work<C: Carrier>(
     store: &mut Store<'_>,
     script: &[u8],

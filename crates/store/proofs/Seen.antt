@@ -1,8 +1,6 @@
 -- The rows that the book shows, read off the rows that it stores.
-use Rattle.std.proofs.Common.{◌≡◌, ℕ, ◌+◌, ◌-◌, ◌<◌, ◌≤◌, true, false, List, [], ◌∷◌, length, map, sym, ap, ◌∙◌, Some, None, Option, IfSome, MatchOption, unwrap_or, ◌⊎◌, inl, inr, Bor, Result, Ok, Err, IsOk, refl, take, subst, ⊎_elim, arith}
-use Rattle.std.specs.List.{slice_range}
+use Rattle.std.proofs.Common.{◌≡◌, ℕ, ◌+◌, ◌≤◌, true, false, List, [], ◌∷◌, length, map, sym, ap, ◌∙◌, Some, None, Option, IfSome, Bor, Result, Ok, Err, IsOk, refl, take, subst, ⊎_elim, arith}
 use Rattle.std.specs.Slice.{IsGetResult}
-use Rattle.std.proofs.lemmas.List.{take_all}
 use Rattle.std.proofs.lemmas.Bool.{cases_Bool, and_parts, and_from}
 use Rattle.rows.specs.declared.plain.LawBroken.{LawBroken}
 use Rattle.rows.specs.declared.plain.PlainRow.{PlainRow}
@@ -20,16 +18,7 @@ use Rattle.groups.proofs.ObeysLemmas.{read_obeys, view_obeys}
 use Rattle.groups.proofs.Viewed.{length_view}
 use Rattle.store.specs.Memory.{Lawful}
 
--- the rows that are read as the first ones, or all where there are not so many, are the first ones
-pub first_ones_read : (n : ℕ) (rows : List PlainRow) (found : Option (Bor (List PlainRow))) (all read : Bor (List PlainRow)) → all.now ≡ rows
-    → MatchOption found ((n < 0) ⊎ (length rows < n)) (λ x. (0 ≤ n) × (n ≤ length rows) × (x.now ≡ slice_range rows 0 n) × (length x.now + 0 ≡ n)) → read ≡ unwrap_or found all → read.now ≡ take n rows
-first_ones_read n rows None all read a (inl l) e = absurd (omega arith)
-first_ones_read n rows None all read a (inr l) e = ap (λ (r : Bor (List PlainRow)). r.now) e ∙ a ∙ sym (take_all n rows (omega arith))
-first_ones_read n rows (Some x) all read a h e =
-    let whole : n - 0 ≡ n = omega arith in
-    ap (λ (r : Bor (List PlainRow)). r.now) e ∙ h.2 ∙ ap (λ k. take k rows) whole
-
--- so all stored rows are sound
+-- all stored rows are sound
 pub obeying_rows_are_sound : (n job : ℕ) (rows : List PlainRow) → rows_obey (plain_fits n) job rows ≡ true → all_sound rows ≡ true
 obeying_rows_are_sound n job [] o = refl
 obeying_rows_are_sound n job (r ∷ rs) o =

@@ -27,7 +27,7 @@ use Rattle.store.specs.EditAnswers.{refusal, refused_at}
 use Rattle.store.specs.Views.{told, told_stub}
 use Rattle.histories.specs.Histories.{Called}
 use Rattle.store.specs.Memory.{Lawful}
-use Rattle.histories.specs.Told.{told_stub as told_opened}
+use Rattle.histories.proofs.StubAnswers.{stub_answer}
 use Rattle.histories.proofs.Calling.{open_called, stopped_called, edit_called}
 use Rattle.store.proofs.Lawful.{written_lawful}
 use Rattle.store.proofs.Seen.{jobs_seen, wide}
@@ -39,7 +39,7 @@ use Rattle.store.specs.Books.{PlainBook, book_of}
 -- ---- groups
 
 -- an opening's answer
-opening_told : (r : Option Stub) → told_stub (ok_or r TooDeep) ≡ told_opened r
+opening_told : (r : Option Stub) → told_stub (ok_or r TooDeep) ≡ stub_answer r
 opening_told (Some k) = refl
 opening_told None = refl
 

@@ -3,7 +3,7 @@ use Rattle.rows.specs.Waiting.{Waiting}
 use Rattle.groups.specs.State.{State}
 use Rattle.histories.specs.Rules.{BookState, book_state}
 
--- What creation fixes of a plain book besides its size, its mark and its trail, as limits: nothing.
+-- What creation fixes of a plain book besides its size, its mark and its trail, for instance limits: nothing.
 abbrev pub Fixed : Type 0
 Fixed = Unit {0}
 

@@ -1,6 +1,6 @@
 // Calls as values.
 
-// A call that writes one row.
+/// A call that writes one row.
 #[derive(Clone, Copy, Debug)]
 pub enum Edit<'e> {
     Grant {

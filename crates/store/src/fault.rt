@@ -3,7 +3,7 @@ mod tells;
 
 use groups::Stub;
 
-// The refusals of the book's calls; docs/RULES.md has their numbers and the order of the checks.
+/// The refusals of the book's calls; docs/RULES.md has their numbers and the order of the checks.
 #[derive(Clone, Copy, PartialEq, Eq, Debug)]
 pub enum BookFault {
     NoSuchJob,
@@ -17,7 +17,7 @@ pub enum BookFault {
     NotInnermost,
 }
 
-// A refused ending, with its stub.
+/// A refused ending, with its stub.
 #[derive(Clone, Copy, Drop, PartialEq, Eq, Debug)]
 pub struct RefusedStub {
     pub fault: BookFault,

@@ -4,14 +4,14 @@ ghost use Rattle.rows.specs.Views.{waiting_or_idle};
 
 use rows::PlainRow;
 
-// How many targets are needed.
+/// How many targets are needed.
 pub fn need_of(stored: Option<&PlainRow>) -> u8
     ensures { result ≡ (waiting_or_idle stored.entry).need }
 {
     stored.map_or(0, |plain| plain.need)
 }
 
-// The targets.
+/// The targets.
 pub fn targets_of(stored: Option<&PlainRow>) -> &[u8]
     ensures { result.now ≡ (waiting_or_idle stored.entry).targets }
 {

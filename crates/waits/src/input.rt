@@ -5,7 +5,7 @@ ghost use Rattle.std.specs.Io.KnownBytes.{Consumes};
 use std::io;
 use std::io::Read;
 
-// Reads to the end of the input, but no more bytes than there is memory for; tells how many.
+/// Reads to the end of the input, but no more bytes than there is memory for; tells how many.
 pub fn read_up_to<R: Read>(reader: &mut R, memory: &mut [u8]) -> io::Result<usize>
     ensures bound { IfOk result (λ n. n ≤ length memory.new) }
     ensures left { IfOk result (λ n. Consumes (R.remaining reader.old) (R.remaining reader.new) (take n memory.new)) }

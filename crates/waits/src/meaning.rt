@@ -50,7 +50,7 @@ fn layer_name(fault: ScriptFault) -> &'static str {
     }
 }
 
-// A stopped script, told in one line: number, meaning, layer, offset, index, and the value if there is one.
+/// A stopped script, told in one line: number, meaning, layer, offset, index, and the value if there is one.
 #[derive(Clone, Copy)]
 pub struct Told<'a>(pub &'a StoppedScript);
 

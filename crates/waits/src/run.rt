@@ -15,13 +15,13 @@ const PROGRAM_TRAIL: usize = TRAIL_MAX;
 // Room for the messages of a detection, however many waits there are.
 const PROGRAM_QUEUE: usize = CAPACITY_PER_WAIT * WAITS_MAX;
 
-// Enough for the longest script: it has a detection for every two bytes at most, and each writes four.
+/// Enough for the longest script: it has a detection for every two bytes at most, and each writes four.
 pub const PROGRAM_ANSWERS: usize = 16_384;
 
 // The mark of the book's tickets: any, since a script hands none out.
 const MARK: u16 = 7;
 
-// Runs a script on a new book, and tells how it ends.
+/// Runs a script on a new book, and tells how it ends.
 pub fn run(script: &[u8], answers: &mut [u8]) -> Result<FinishedScript, StoppedScript>
     ensures comes_out { ComesOut script.now answers.old result answers.new }
     ensures written { script_written result ≤ length answers.new }

@@ -11,14 +11,14 @@ use std::io::{Read, Write};
 // One byte more than a script can have, so that one that is too long is seen to be so.
 const INPUT_MAX: usize = SCRIPT_MAX + 1;
 
-// What came of a script, and of writing its bytes.
+/// What came of a script, and of writing its bytes.
 #[derive(Drop)]
 pub struct Served {
     pub outcome: Result<FinishedScript, StoppedScript>,
     pub printed: io::Result<()>,
 }
 
-// Runs the script that the input holds, and writes to the output what it has written. Where the input can't be read, nothing is run.
+/// Runs the script that the input holds, and writes to the output what it has written. Where the input can't be read, nothing is run.
 pub fn serve<R: Read, W: Write>(input: &mut R, output: &mut W) -> io::Result<Served>
     ensures serves { IfOk result (λ s. Serves (R.remaining input.old) s.outcome (is_ok s.printed) (W.contents output.old) (W.contents output.new)) }
     ensures unread { IfErr result (λ _. output.new ≡ output.old) }

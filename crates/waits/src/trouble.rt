@@ -3,7 +3,7 @@ use crate::meaning::Told;
 use book::StoppedScript;
 use std::{fmt, io};
 
-// The script can't be read, its bytes can't be written, or a fault has stopped it.
+/// The script can't be read, its bytes can't be written, or a fault has stopped it.
 #[derive(Drop)]
 pub enum Trouble {
     Input(io::Error),

@@ -5,7 +5,7 @@ use groups::{Ending, Stub};
 use scripts::{FinishedScript, StoppedScript};
 use store::{BookFault, Edit, RefusedStub};
 
-// A call. An ending is made with a ticket that tells what the stub tells, whether or not an opening has given such a ticket.
+/// A call. An ending is made with a ticket that tells what the stub tells, whether or not an opening has given such a ticket.
 #[derive(Clone, Copy, Debug)]
 pub enum Call<'c> {
     Open,
@@ -15,7 +15,7 @@ pub enum Call<'c> {
     Run { script: &'c [u8] },
 }
 
-// The answer of a call. A refused ending tells what the ticket tells that comes back.
+/// The answer of a call. A refused ending tells what the ticket tells that comes back.
 #[derive(Clone, Copy, Drop, PartialEq, Eq, Debug)]
 pub enum Answer {
     Opened(Result<Stub, BookFault>),

@@ -6,7 +6,7 @@ ghost use Rattle.book.specs.Moments.{answer_at, seen_at, written_by};
 use crate::life::call::Answer;
 use store::Snapshot;
 
-// What a call answered, and what was seen of the book after it.
+/// What a call answered, and what was seen of the book after it.
 #[derive(Clone, Copy, Debug)]
 pub struct Moment {
     pub answer: Answer,
@@ -14,7 +14,7 @@ pub struct Moment {
 }
 
 impl Moment {
-    // A moment in which no life has been lived yet.
+    /// A moment in which no life has been lived yet.
     pub fn blank() -> Moment
         ensures answer { answer_at result ≡ Edited (Ok tt) }
         ensures seen { seen_at result ≡ record { rows = []; depth = 0 } }
@@ -27,7 +27,7 @@ impl Moment {
 }
 
 impl Answer {
-    // How many answer bytes the call has written; only a script writes any.
+    /// How many answer bytes the call has written; only a script writes any.
     pub fn written(&self) -> usize
         ensures { result ≡ written_by self.now }
     {

@@ -10,7 +10,7 @@ use arrayvec::ArrayVec;
 use containers::{Container, Stack};
 
 impl<'a, P: Copy> Groups<'a, P> {
-    // Every row is `row`, and no group is open. The old rows will lie in the lent memory.
+    /// Every row is `row`, and no group is open. The old rows will lie in the lent memory.
     pub fn new(row: P, mark: u16, memory: &'a mut [Old<P>]) -> Groups<'a, P>
         ensures { result ≡ fresh row_count row mark (length memory.old) }
     {
@@ -22,7 +22,7 @@ impl<'a, P: Copy> Groups<'a, P> {
         }
     }
 
-    // The row of a job.
+    /// The row of a job.
     pub fn row(&self, job: u8) -> P
         ensures { (d : P) → result ≡ slice_index_or self.now.rows job d }
     {
@@ -31,14 +31,14 @@ impl<'a, P: Copy> Groups<'a, P> {
         rows[job as usize]
     }
 
-    // All rows.
+    /// All rows.
     pub fn rows(&self) -> &[P; ROWS]
         ensures { result.now ≡ self.now.rows }
     {
         &self.rows
     }
 
-    // How many groups are open.
+    /// How many groups are open.
     pub fn depth(&self) -> usize
         ensures value { result ≡ length self.now.groups }
         ensures bound { result ≤ depth_max }
@@ -46,8 +46,8 @@ impl<'a, P: Copy> Groups<'a, P> {
         self.starts.len()
     }
 
-    // Writes the row of a job, and inside a group first what stands there to the trail; refused, with nothing changed, if
-    // that is full.
+    /// Writes the row of a job, and inside a group first what stands there to the trail; refused, with nothing changed, if
+    /// that is full.
     pub fn write(&mut self, job: u8, row: P) -> Result<(), TrailFull>
         ensures value { is_ok result ≡ not (full self.old.room (face self.old)) }
         ensures after { self.new ≡ (if is_ok result then written self.old job row else self.old) }
@@ -74,7 +74,7 @@ impl<'a, P: Copy> Groups<'a, P> {
         Ok(())
     }
 
-    // Opens a group inside the others, and answers its stub; none, and nothing changed, if eight are open.
+    /// Opens a group inside the others, and answers its stub; none, and nothing changed, if eight are open.
     pub fn open(&mut self) -> Option<Stub>
         ensures value { result ≡ (if can_open (face self.old) then Some (record { mark = self.old.mark; depth = (face self.old).depth + 1 }) else None) }
         ensures after { self.new ≡ (if can_open (face self.old) then opened self.old else self.old) }
@@ -90,7 +90,7 @@ impl<'a, P: Copy> Groups<'a, P> {
         })
     }
 
-    // The stub of the innermost group; where no group is open, it is no group's.
+    /// The stub of the innermost group; where no group is open, it is no group's.
     pub fn innermost(&self) -> Stub
         ensures { result ≡ record { mark = self.now.mark; depth = length self.now.groups } }
     {
@@ -108,7 +108,7 @@ impl<'a, P: Copy> Groups<'a, P> {
         stub.mark == self.mark && stub.depth as usize == depth && depth > 0
     }
 
-    // Ends the innermost group: its writes stay, or are undone. A stub that is not that group's comes back, and nothing changes.
+    /// Ends the innermost group: its writes stay, or are undone. A stub that is not that group's comes back, and nothing changes.
     pub fn end(&mut self, ending: Ending, stub: Stub) -> Result<(), Stub>
         ensures value { result ≡ (if fits self.old stub then Ok tt else Err stub) }
         ensures after { self.new ≡ (if fits self.old stub then ended_as ending self.old else self.old) }

@@ -10,8 +10,8 @@ use rows::RowFault;
 
 impl BookFault {
     /// The refusal's number, which the rules fix, from 1 to 9.
-    // Other faults have a number too, each by a definition of its own, and nothing goes over all of them, so that a trait would be
-    // no plainer; the same of the value.
+    /// Other faults have a number too, each by a definition of its own, and nothing goes over all of them, so that a trait would be
+    /// no plainer; the same of the value.
     pub fn number(&self) -> u8
         ensures { result ≡ number self.now }
     {

@@ -27,7 +27,7 @@ impl Snapshot {
         ensures value { result.now ≡ map stored_as (snapshot_view self.now).rows }
         ensures lawful { all_sound result.now ≡ true }
     {
-        self.rows.get(..self.jobs).unwrap_or(&self.rows)
+        &self.rows[..self.jobs]
     }
 
     /// How many groups were open, from 0 to 8.

@@ -32,8 +32,8 @@ fn created(jobs: usize) -> usize
 }
 
 impl<'a> Store<'a> {
-    // A book in which every job is active. Its stubs will carry the mark, and what its groups would undo lies in the
-    // lent memory. Where more than 256 jobs are asked for, it has none.
+    /// A book in which every job is active. Its stubs will carry the mark, and what its groups would undo lies in the
+    /// lent memory. Where more than 256 jobs are asked for, it has none.
     pub fn new(jobs: usize, mark: u16, memory: &'a mut [Old<PlainRow>]) -> Store<'a>
         ensures value { result ≡ new_book jobs mark (length memory.old) }
         ensures shows { Shows plain result begun }
@@ -44,7 +44,7 @@ impl<'a> Store<'a> {
         }
     }
 
-    // A request: an active job waits for `need` of the targets, which are listed by rising number.
+    /// A request: an active job waits for `need` of the targets, which are listed by rising number.
     pub fn request(&mut self, job: usize, need: u8, targets: &[u8]) -> Result<(), BookFault>
         ensures { Called plain self.old (edits (requests job need targets.now)) (told result) self.new }
     {
@@ -59,8 +59,8 @@ impl<'a> Store<'a> {
         self.write(job, row)
     }
 
-    // A grant: the waiter no longer waits for the granter, which is active, and needs one less; when it needs none, its
-    // other waits go too.
+    /// A grant: the waiter no longer waits for the granter, which is active, and needs one less; when it needs none, its
+    /// other waits go too.
     pub fn grant(&mut self, granter: usize, waiter: usize) -> Result<(), BookFault>
         ensures { Called plain self.old (edits (grants granter waiter)) (told result) self.new }
     {
@@ -88,15 +88,15 @@ impl<'a> Store<'a> {
         Ok(self.groups.write(job as u8, row.into())?)
     }
 
-    // Opens a group inside the others, and answers its stub.
+    /// Opens a group inside the others, and answers its stub.
     pub fn open(&mut self) -> Result<Stub, BookFault>
         ensures { Called plain self.old opens (told_stub result) self.new }
     {
         self.groups.open().ok_or(BookFault::TooDeep)
     }
 
-    // Ends the innermost group: its edits stay, undone only if the group around it is cancelled; or every row is as it was when the
-    // group was opened. A stub that is not the innermost group's comes back.
+    /// Ends the innermost group: its edits stay, undone only if the group around it is cancelled; or every row is as it was when the
+    /// group was opened. A stub that is not the innermost group's comes back.
     pub fn end(&mut self, ending: Ending, stub: Stub) -> Result<(), RefusedStub>
         ensures { Called plain self.old (ends ending stub.mark stub.depth) (told_ending_by result) self.new }
     {
@@ -109,7 +109,7 @@ impl<'a> Store<'a> {
         }
     }
 
-    // Ends the innermost group, as its stub would.
+    /// Ends the innermost group, as its stub would.
     pub fn end_innermost(&mut self, ending: Ending)
         requires { 0 < length self.old.state.groups }
         ensures value { says plain self.old (ends ending self.old.state.mark (length self.old.state.groups)) ≡ done }
@@ -118,10 +118,10 @@ impl<'a> Store<'a> {
         ensures depth { length self.new.state.groups ≡ length self.old.state.groups - 1 }
     {
         let innermost = self.groups.innermost();
-        let _ = self.end(ending, innermost);
+        self.end(ending, innermost).unwrap();
     }
 
-    // Makes an edit.
+    /// Makes an edit.
     pub fn edit(&mut self, edit: Edit<'_>) -> Result<(), BookFault>
         ensures { Called plain self.old (edits (edit_of edit.entry)) (told result) self.new }
     {

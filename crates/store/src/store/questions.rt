@@ -23,8 +23,8 @@ impl<'a> Store<'a> {
         self.groups.rows()[..self.jobs].get(job)
     }
 
-    // The row of a job, checked; as every stored row obeys the law, the check can't fail.
-    pub fn row(&self, job: usize) -> Row
+    /// The row of a job, checked; as every stored row obeys the law, the check can't fail.
+    pub(crate) fn row(&self, job: usize) -> Row
         ensures { waiting_of result ≡ at self.now.state.rows job }
     {
         match self.stored(job) {
@@ -33,7 +33,7 @@ impl<'a> Store<'a> {
         }
     }
 
-    // What is seen of the book.
+    /// What is seen of the book.
     pub fn snapshot(&self) -> Snapshot
         ensures { snapshot_view result ≡ view_of (of_book plain) self.now }
     {
@@ -44,7 +44,7 @@ impl<'a> Store<'a> {
         }
     }
 
-    // How many groups are open.
+    /// How many groups are open.
     pub fn depth(&self) -> usize
         ensures value { result ≡ length self.now.state.groups }
         ensures bound { result ≤ depth_max }

@@ -1,18 +1,15 @@
 -- The first of rows that obey the law are sound, and so stored as what they say decides.
-use Rattle.std.proofs.Common.{take, refl, ap, ◌∙◌}
-use Rattle.rows.specs.Views.{all_sound}
+use Rattle.std.proofs.Common.{take}
 use Rattle.rows.proofs.Compared.{all_sound_are_stored_as, first_ones_are_sound}
-use Rattle.store.proofs.Seen.{first_ones_read, obeying_rows_are_sound}
+use Rattle.store.proofs.Seen.{obeying_rows_are_sound}
 use Rattle.store.proofs.snapshot.Snapshot.rows.Goals as goal
 
 pub returns-clause-value : goal.returns-clause-value
 returns-clause-value c =
     let s = c.args.self.now in
-    first_ones_read s.jobs s.rows c.get.result _ c.unwrap_or.result refl c.get.ensures.lookup.0 c.unwrap_or.ensures
-    ∙ all_sound_are_stored_as (take s.jobs s.rows) (first_ones_are_sound s.jobs s.rows (obeying_rows_are_sound s.jobs 0 s.rows s.lawful))
+    all_sound_are_stored_as (take s.jobs s.rows) (first_ones_are_sound s.jobs s.rows (obeying_rows_are_sound s.jobs 0 s.rows s.lawful))
 
 pub returns-clause-lawful : goal.returns-clause-lawful
 returns-clause-lawful c =
     let s = c.args.self.now in
-    ap all_sound (first_ones_read s.jobs s.rows c.get.result _ c.unwrap_or.result refl c.get.ensures.lookup.0 c.unwrap_or.ensures)
-    ∙ first_ones_are_sound s.jobs s.rows (obeying_rows_are_sound s.jobs 0 s.rows s.lawful)
+    first_ones_are_sound s.jobs s.rows (obeying_rows_are_sound s.jobs 0 s.rows s.lawful)

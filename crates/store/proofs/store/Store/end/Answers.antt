@@ -1,7 +1,7 @@
 use Rattle.std.proofs.Common.{◌≡◌, refl}
 use Rattle.rows.specs.Views.{waiting}
 use Rattle.groups.specs.Stubs.{fits}
-use Rattle.histories.specs.Told.{told_return}
+use Rattle.histories.proofs.StubAnswers.{ending_answer_of}
 use Rattle.histories.proofs.Calling.{end_called}
 use Rattle.store.specs.Plain.{plain}
 use Rattle.store.specs.Views.{told_ending_by}
@@ -19,6 +19,6 @@ pub returns : goal.returns
 returns c =
     let b = c.self.inside in
     let e = c.end.ensures in
-    let told : told_ending_by c.match-end.result ≡ told_return c.end.result =
+    let told : told_ending_by c.match-end.result ≡ ending_answer_of c.end.result =
     elim c.match-end.branch [ in-Ok w ↦ rw (w.result-is, w.in-Ok.is) refl | in-Err w ↦ rw (w.result-is, w.in-Err.is) refl ] in
     rw (← c.self.view_is, told) (end_called b.jobs waiting plain tt b.groups c.end.new.self (wide b.jobs b.groups c.self.invariant) c.args.ending c.args.stub c.end.result e.value e.after)

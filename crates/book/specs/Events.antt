@@ -22,16 +22,16 @@ pub record ScriptRun : Type 0 where
   pub after : Lent
 
 -- It happens to a subject by the rules of scripts.
-abbrev pub Runs : {X : Type 0} → Subject Waiting Edit X → X → ScriptRun → X → Type 0
-Runs S x r y = Scripted S x r.before r.script r.answer y r.after
+abbrev pub RunsScript : {X : Type 0} → Subject Waiting Edit X → X → ScriptRun → X → Type 0
+RunsScript S x r y = Scripted S x r.before r.script r.answer y r.after
 
 -- To a book.
 abbrev pub RunsOnBook : PlainBook → ScriptRun → PlainBook → Type 0
-RunsOnBook = Runs (of_book plain)
+RunsOnBook = RunsScript (of_book plain)
 
 -- To a history, which is then fed the calls that the script counts as.
 pub record RunsOnHistory (t : Terms Fixed) (h : History Edit) (r : ScriptRun) (i : History Edit) : Type 0 where
-  pub does : Runs (of_history plain t) h r i
+  pub does : RunsScript (of_history plain t) h r i
   pub counts : CountsAs (of_history plain t) h r.script r.answer i
 
 -- What happens to a plain book.
@@ -46,9 +46,10 @@ scripted script before answer after = special (record { script = script; before 
 abbrev pub DoesOnBook : PlainBook → BookEvent → PlainBook → Type 0
 DoesOnBook = Does plain (of_book plain) RunsOnBook
 
--- The life of a plain book, and of a history.
+-- The life of a plain book.
 abbrev pub LifeOfBook : (first : PlainBook) → List BookEvent → List (View Waiting) → PlainBook → Type 0
 LifeOfBook = Life plain (of_book plain) RunsOnBook
 
+-- The life of a history.
 abbrev pub LifeOfHistory : Terms Fixed → (first : History Edit) → List BookEvent → List (View Waiting) → History Edit → Type 0
 LifeOfHistory t = Life plain (of_history plain t) (RunsOnHistory t)
