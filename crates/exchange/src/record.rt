@@ -6,7 +6,7 @@ use carriers::Wait;
 
 // `notified_by` and `freed_by` are the waits on which the first NOTIFY and the freeing GRANT came. The rules fix the seven entries,
 // of which the first two are yes or no.
-#[derive(Clone, Copy, Drop)]
+#[derive(Clone, Copy, Drop, PartialEq, Eq, Debug)]
 pub struct RunRecord {
     pub notified: bool,
     pub free: bool,

@@ -2,7 +2,7 @@
 use crate::tests::common::*;
 use crate::tests::machine::{Closing, Variant, run};
 use book::Book;
-use carriers::{Picker, Wait};
+use carriers::Picker;
 use detection::{RunRecord, Verdict, detect};
 use std::process::Abort;
 
@@ -14,28 +14,6 @@ const FREED_BEFORE_NOTIFIED: &[u16] = &[1, 3];
 
 // In the chain: the NOTIFY for 1, the NOTIFY for 2 and the GRANT for 1; then, while the GRANT for 0 waits, what was put after it.
 const LATE_GRANT: &[u16] = &[0, 0, 0, 1, 1, 1];
-
-// What a record keeps.
-fn fields(record: RunRecord) -> (bool, bool, u16, u16, u16, Option<Wait>, Option<Wait>) {
-    let RunRecord {
-        notified,
-        free,
-        granted,
-        dones_due,
-        acks_due,
-        notified_by,
-        freed_by,
-    } = record;
-    (
-        notified,
-        free,
-        granted,
-        dones_due,
-        acks_due,
-        notified_by,
-        freed_by,
-    )
-}
 
 // A machine that goes by the rules ends as the detector does, where the messages come in the same order. When its initiator closes its notice,
 // no message waits.
@@ -62,7 +40,7 @@ fn ends_as_the_detector(
         assert_eq!(rt; closing.waiting, 0);
     }
     for (own, record) in outcome.records.iter().zip(&records) {
-        assert!(rt; fields(*own) == fields(*record));
+        assert_eq!(rt; *own, *record);
     }
 }
 
