@@ -5,3 +5,5 @@ pub mod Waiters
 pub mod Grants
 pub mod Left
 pub mod Sizes
+mod BitMatrixLemmas
+mod BitScans

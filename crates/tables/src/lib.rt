@@ -2,9 +2,11 @@
 #![tactic(auto)]
 
 mod freeing;
+mod indexed;
 mod table;
 mod walks;
 
 pub use freeing::loosened_jobs_can_be_freed;
+pub use indexed::{INDEX_WORDS, Indexed};
 pub use table::{JOBS_MAX, Table, TwoWayTable, WAITS_MAX};
 pub use walks::{TargetsOf, WaitersOf};
