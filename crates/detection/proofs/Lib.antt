@@ -1,4 +1,5 @@
 -- The lemmas, by topic.
+mod Checks
 mod Walked
 mod Acts
 mod Going

@@ -11,7 +11,7 @@ use crate::reactions::{deliver, spread};
 use crate::verdict::{Detection, Verdict};
 use carriers::Carrier;
 use exchange::RunRecord;
-use tables::TwoWayTable;
+use tables::{INDEX_WORDS, Indexed, Table, TwoWayTable};
 
 // How many messages a carrier must have room for, for each wait.
 pub const CAPACITY_PER_WAIT: usize = 2;
@@ -37,10 +37,13 @@ pub fn detect<T: TwoWayTable, C: Carrier>(
     if carrier.waiting() > 0 {
         return Err(DetectionFault::MessagesWait);
     }
-    if carrier.capacity() < CAPACITY_PER_WAIT * table.wait_count() {
+    // the pass that counts the waits finds who waits for whom as well
+    let mut words = [0; INDEX_WORDS];
+    let indexed = Indexed::new(table, &mut words);
+    if carrier.capacity() < CAPACITY_PER_WAIT * indexed.wait_count() {
         return Err(DetectionFault::CarrierTooSmall);
     }
-    let table = LawfulTable { table };
+    let table = LawfulTable { table: &indexed };
     Ok(run(&table, initiator as u8, &mut records[..jobs], carrier))
 }
 

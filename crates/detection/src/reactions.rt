@@ -28,7 +28,9 @@ fn release<T: TwoWayTable, C: Carrier>(
     own.acks_due = send_grants(table, job, carrier);
 }
 
-// A job spreads: it becomes notified, and puts NOTIFY on each of its waits; one that needs none by the table then lets go.
+// A job spreads: it becomes notified, and puts NOTIFY on each of its waits; one that needs none by the table then lets go. Inlined, so that
+// a queue's ends stay in registers from delivery to delivery.
+#[inline(always)]
 pub fn spread<T: TwoWayTable, C: Carrier>(
     table: &LawfulTable<T>,
     job: u8,

@@ -59,18 +59,18 @@ mark_is_set_too words u w within lw t v lv =
     let word : ℕ = bit_or old (1 * 2 ^ (w % 64) % 2 ^ 64) in
     elim (cases_eq (t * 4 + v / 64) (u * 4 + w / 64)) [
       | inl e ↦
-        let tu : t ≡ u = omega arith in
-        let part : v / 64 ≡ w / 64 = omega arith in
-        let now : get_or (set words place word) (t * 4 + v / 64) 0 ≡ word =
-            ap (λ (i : ℕ). get_or (set words place word) i 0) e ∙ get_or-set_same words place word 0 within in
-        let was : get_or words (t * 4 + v / 64) 0 ≡ old = ap (λ (i : ℕ). get_or words i 0) e in
-        ap (λ (n : ℕ). eqb (bit_at n (v % 64)) 1) now
-        ∙ bit_is_set_too old (w % 64) (v % 64) (omega arith)
-        ∙ ap (λ (n : ℕ). eqb (bit_at n (v % 64)) 1 || eqb (v % 64) (w % 64)) (sym was)
-        ∙ ap (λ (b : Bool). eqb (bit_at (get_or words (t * 4 + v / 64) 0) (v % 64)) 1 || b) (same_bit t u v w tu part)
+          let tu : t ≡ u = omega arith in
+          let part : v / 64 ≡ w / 64 = omega arith in
+          let now : get_or (set words place word) (t * 4 + v / 64) 0 ≡ word =
+          ap (λ (i : ℕ). get_or (set words place word) i 0) e ∙ get_or-set_same words place word 0 within in
+          let was : get_or words (t * 4 + v / 64) 0 ≡ old = ap (λ (i : ℕ). get_or words i 0) e in
+          ap (λ (n : ℕ). eqb (bit_at n (v % 64)) 1) now
+          ∙ bit_is_set_too old (w % 64) (v % 64) (omega arith)
+          ∙ ap (λ (n : ℕ). eqb (bit_at n (v % 64)) 1 || eqb (v % 64) (w % 64)) (sym was)
+          ∙ ap (λ (b : Bool). eqb (bit_at (get_or words (t * 4 + v / 64) 0) (v % 64)) 1 || b) (same_bit t u v w tu part)
       | inr ne ↦
-        or_none _ (is_marked words t v) (eqb t u && eqb v w) (other_place t u v w ne)
-        (ap (λ (n : ℕ). eqb (bit_at n (v % 64)) 1) (get_or-set_other words place (t * 4 + v / 64) word 0 ne))
+          or_none _ (is_marked words t v) (eqb t u && eqb v w) (other_place t u v w ne)
+          (ap (λ (n : ℕ). eqb (bit_at n (v % 64)) 1) (get_or-set_other words place (t * 4 + v / 64) word 0 ne))
     ]
 
 -- From target to target: those in front are marked.
@@ -125,7 +125,7 @@ module _ {targets left : List ℕ} {waiter count : ℕ} {was is : List ℕ} (wal
           ∙ ap (λ (b : Bool). b || (eqb t x && eqb v waiter)) (walked.marked t v l)
           ∙ regrouped (is_marked was t v) (eqb v waiter) (among t walked.front) (eqb t x)
           ∙ ap (λ (b : Bool). is_marked was t v || (eqb v waiter && b))
-              (ap (λ (b : Bool). among t walked.front || b) (eqb_turned t x) ∙ sym (among_push t x walked.front));
+          (ap (λ (b : Bool). among t walked.front || b) (eqb_turned t x) ∙ sym (among_push t x walked.front));
     }
 
   -- Where no target is left, all are marked.
@@ -160,20 +160,20 @@ one_row_more_is_marked rows job was is below row t v l =
     row t v l ∙ ap (λ (b : Bool). b || (eqb v job && among t (at rows job).targets)) (below t v l)
     ∙ elim (cases_order v job) [
       | inl e ↦
-        ap (λ (b : Bool). (b && a) || (eqb v job && among t (at rows job).targets)) (le-ltb v job (omega arith))
-        ∙ ap (λ (b : Bool). b && among t (at rows job).targets) (eq-eqb v job e)
-        ∙ ap (λ (j : ℕ). among t (at rows j).targets) (sym e)
-        ∙ sym (ap (λ (b : Bool). b && a) (lt-ltb v (job + 1) (omega arith)))
+          ap (λ (b : Bool). (b && a) || (eqb v job && among t (at rows job).targets)) (le-ltb v job (omega arith))
+          ∙ ap (λ (b : Bool). b && among t (at rows job).targets) (eq-eqb v job e)
+          ∙ ap (λ (j : ℕ). among t (at rows j).targets) (sym e)
+          ∙ sym (ap (λ (b : Bool). b && a) (lt-ltb v (job + 1) (omega arith)))
       | inr o ↦ elim o [
-          | inl lt ↦
+        | inl lt ↦
             sym (or_none (ltb v (job + 1) && a) (ltb v job && a) (eqb v job && among t (at rows job).targets)
             (and_left (eqb v job) (among t (at rows job).targets) (ne_eqb v job (λ (s : v ≡ job). omega arith)))
             (ap (λ (b : Bool). b && a) (lt-ltb v (job + 1) (omega arith) ∙ sym (lt-ltb v job lt))))
-          | inr gt ↦
+        | inr gt ↦
             sym (or_none (ltb v (job + 1) && a) (ltb v job && a) (eqb v job && among t (at rows job).targets)
             (and_left (eqb v job) (among t (at rows job).targets) (ne_eqb v job (λ (s : v ≡ job). omega arith)))
             (ap (λ (b : Bool). b && a) (le-ltb v (job + 1) (omega arith) ∙ sym (le-ltb v job (omega arith)))))
-        ]
+      ]
     ]
 
 pub all_rows_are_marked : (rows : List Waiting) (words : List ℕ) (jobs : ℕ) → IsTable rows → length rows ≤ jobs → MarkedBelow rows words jobs → MarksWaits rows words

@@ -61,13 +61,14 @@ module _ {rows : List Waiting} {words : List ℕ} (marked : MarksWaits rows word
       let small_n : n < 2 ^ 64 = omega (arith, shifted_is_small, wide) in
       let low = bit_at-trailing_zeros w64 n some small_n in
       let inside : from % 64 + trailing_zeros w64 n < 64 =
-          elim (cases_lt (trailing_zeros w64 n) (64 - from % 64)) [
-            | inl l ↦ omega arith
-            | inr h ↦ absurd (omega (arith, bit_at_above n (64 - from % 64) (trailing_zeros w64 n) shifted_is_small h, low.1))
-          ] in
-      (omega arith,
-      sym (bits_tell (trailing_zeros w64 n) inside) ∙ eq-eqb _ 1 low.1,
-      λ w l h. sym (tells_at w l (omega arith)) ∙ ap (λ (b : ℕ). eqb b 1) (low.2 (w - from) (omega arith)))
+      elim (cases_lt (trailing_zeros w64 n) (64 - from % 64)) [
+        | inl l ↦ omega arith
+        | inr h ↦ absurd (omega (arith, bit_at_above n (64 - from % 64) (trailing_zeros w64 n) shifted_is_small h, low.1))
+      ] in (
+        omega arith,
+        sym (bits_tell (trailing_zeros w64 n) inside) ∙ eq-eqb _ 1 low.1,
+        λ w l h. sym (tells_at w l (omega arith)) ∙ ap (λ (b : ℕ). eqb b 1) (low.2 (w - from) (omega arith)),
+      )
 
 -- From word to word: no job from `from` up to `low` waits.
 module _ {rows : List Waiting} {words : List ℕ} (marked : MarksWaits rows words) (u from : ℕ) where
@@ -85,6 +86,9 @@ module _ {rows : List Waiting} {words : List ℕ} (marked : MarksWaits rows word
     pub found_is_first : (v : ℕ) → from ≤ low → (low ≤ v) × (among u (at rows v).targets ≡ true) × ((w : ℕ) → low ≤ w → w < v → among u (at rows w).targets ≡ false)
         → Some v ≡ first_from from (waiters rows u)
     found_is_first v l f =
-        first_who_waits_is_the_first_waiter rows u from (length rows) refl (Some v)
-        (omega (arith, f.0), who_waits_is_a_job rows v u f.1, f.1,
-        λ w m h. elim (cases_lt w low) [ | inl b ↦ before w m b | inr a ↦ f.2 w a h ])
+        first_who_waits_is_the_first_waiter rows u from (length rows) refl (Some v) (
+          omega (arith, f.0),
+          who_waits_is_a_job rows v u f.1,
+          f.1,
+          λ w m h. elim (cases_lt w low) [ inl b ↦ before w m b | inr a ↦ f.2 w a h ],
+        )
