@@ -1,17 +1,20 @@
 -- What marking a job keeps.
-use Rattle.std.proofs.Common.{◌≡◌, ℕ, ◌+◌, ◌<◌, ◌≤◌, Bool, true, false, cond, ◌||◌, eqb, leb, ◌⊎◌, List, [], ◌∷◌, ◌++◌, length, get_or, set, replicate, sym, refl, ap, ◌∙◌, subst, inl, inr, arith}
-use Rattle.std.proofs.lemmas.List.{length-set, length_push, length-replicate, get_or-set_same, get_or-set_other, get_or_past, get_or-replicate, get_or_default}
+use Rattle.std.proofs.Common.{◌≡◌, ℕ, ◌+◌, ◌-◌, ◌<◌, ◌≤◌, Bool, true, false, cond, ◌||◌, eqb, leb, ◌⊎◌, List, [], ◌∷◌, ◌++◌, length, get_or, set, replicate, sym, refl, ap, ◌∙◌, subst, inl, inr, arith}
+use Rattle.std.proofs.lemmas.List.{length-set, length_push, length-replicate, get_or-set_same, get_or-set_other, get_or_past, get_or-replicate}
 use Rattle.std.proofs.lemmas.List.Sums.{count_by-le-length, sum_by-set}
-use Rattle.std.specs.List.{filter}
-use Rattle.std.proofs.lemmas.Bool.{cases_eq, cases_lt, cases_Bool, true≢false, eq-eqb, ne_eqb, eqb-true, and_parts}
+use Rattle.std.proofs.lemmas.Bool.{or_right, or_cases, cases_eq, cases_lt, cases_Bool, true≢false, eq-eqb, ne_eqb, eqb-true, and_parts}
 use Rattle.std.proofs.lemmas.Bool.Decides.{nat_tests}
 use Rattle.containers.specs.Held.{Held, vacant}
 use Rattle.rows.specs.Waiting.{Waiting, at, among}
 use Rattle.tables.specs.Closed.{count, Closed, Loosened}
+use Rattle.rows.specs.Law.{rising}
+use Rattle.rows.proofs.Laws.{fits_shaped}
 use Rattle.tables.proofs.Grants.{closed_at}
+use Rattle.tables.proofs.Laws.{lawful_at, who_waits_is_a_job}
+use Rattle.tables.proofs.Waiters.{waiters_rise, waiters_are_who_waits, among_rising_is_not_below}
 use Rattle.reduction.specs.Marks.{loose, held, is_loose}
-use Rattle.tables.specs.Tables.{jobs_max}
-use Rattle.reduction.specs.Work.{Work, loose_count, looked_at, steps_left, SoundMarks, SettledIn, Settled, at_hand, CanBeLoosened, with_loose, Decided, next_is}
+use Rattle.tables.specs.Tables.{jobs_max, lawful, waiters}
+use Rattle.reduction.specs.Work.{Work, loose_count, looked_at, steps_left, NoneTwice, SoundMarks, Lacks, Settled, AtHand, CanBeLoosened, with_loose, one_less, with_target, CanHaveTarget, Decided}
 
 -- ---- counts
 
@@ -36,18 +39,46 @@ pub count_none : (S : ℕ → Bool) (ts : List ℕ) → ((u : ℕ) → S u ≡ f
 count_none S [] e = refl
 count_none S (t ∷ ts) e = let rest = count_none S ts e in rw (e t) (omega arith)
 
--- those that pass are counted
-pub length-those : (S : ℕ → Bool) (ts : List ℕ) → length (filter S ts) ≡ count S ts
-length-those S [] = refl
-length-those S (t ∷ ts) = go (S t) (length-those S ts)
-  where
-    go : (b : Bool) → length (filter S ts) ≡ count S ts → length (cond b (t ∷ filter S ts) (filter S ts)) ≡ cond b 1 0 + count S ts
-    go true e = omega arith
-    go false e = omega arith
-
-among_push : (u x : ℕ) (xs : List ℕ) → among u (xs ++ x ∷ []) ≡ (among u xs || eqb x u)
+pub among_push : (u x : ℕ) (xs : List ℕ) → among u (xs ++ x ∷ []) ≡ (among u xs || eqb x u)
 among_push u x [] = grind (arith, nat_tests)
 among_push u x (y ∷ ys) = let rest = among_push u x ys in rw rest (grind (arith, nat_tests))
+
+-- of rising numbers, one more is counted
+pub count_one_more : (S S' : ℕ → Bool) (low : ℕ) (ts : List ℕ) (j : ℕ) → rising low ts ≡ true → among j ts ≡ true → S j ≡ false → S' j ≡ true
+    → ((u : ℕ) → (j ≡ u → ⊥) → S u ≡ S' u) → count S' ts ≡ count S ts + 1
+count_one_more S S' low [] j r a f t e = absurd (true≢false (sym a))
+count_one_more S S' low (x ∷ ts) j r a f t e =
+    let above = (and_parts (leb low x) (rising (x + 1) ts) r).1 in
+    elim (cases_eq x j) [
+      | inl same ↦
+          let rest = count_same S S' ts (λ u b. e u (λ (k : j ≡ u). absurd (omega (arith, among_rising_is_not_below (x + 1) ts u above b)))) in
+          let here : S x ≡ false = ap S same ∙ f in
+          let there : S' x ≡ true = ap S' same ∙ t in
+          rw (here, there) (omega arith)
+      | inr other ↦
+          let b : among j ts ≡ true = rw (ne_eqb x j other) at a in
+          let rest = count_one_more S S' (x + 1) ts j above b f t e in
+          let here : S x ≡ S' x = e x (λ k. other (sym k)) in
+          rw here (omega arith)
+    ]
+
+pub among_before_a_push : (u x : ℕ) (xs : List ℕ) → (u ≡ x → ⊥) → among u (xs ++ x ∷ []) ≡ true → among u xs ≡ true
+among_before_a_push u x xs d a = elim (or_cases (among u xs) (eqb x u) (sym (among_push u x xs) ∙ a)) [
+  | inl b ↦ b
+  | inr e ↦ absurd (d (sym (eqb-true x u e)))
+]
+
+-- ---- numbers that stand once
+
+none_twice_pushed : (x : ℕ) (xs : List ℕ) → NoneTwice xs → among x xs ≡ false → NoneTwice (xs ++ x ∷ [])
+none_twice_pushed x [] n a = (refl, n)
+none_twice_pushed x (y ∷ ys) n a =
+    let other : y ≡ x → ⊥ = λ e. true≢false (sym (or_left_is_so (eq-eqb y x e)) ∙ a) in
+    let rest : among x ys ≡ false = rw (ne_eqb y x other) at a in
+    (among_push y x ys ∙ (let q = ne_eqb x y (λ e. other (sym e)) in rw (n.0, q) refl), none_twice_pushed x ys n.1 rest)
+  where
+    or_left_is_so : eqb y x ≡ true → among x (y ∷ ys) ≡ true
+    or_left_is_so e = rw e refl
 
 -- ---- marks
 
@@ -93,12 +124,21 @@ one_more w i b m = omega (arith, rw m.unmarked at (sum_by-set {X = ℕ} (λ n. c
 not_all : (w : Work) (i : ℕ) → SoundMarks w → CanBeLoosened w i → loose_count w.marks < length w.marks
 not_all w i b m = omega (arith, one_more w i b m, count_by-le-length (λ n. eqb n loose) (set w.marks i loose), length-set w.marks i loose)
 
+-- a job that is not marked is not queued
+pub not_queued : (w : Work) (i : ℕ) → SoundMarks w → is_loose w.marks i ≡ false → among i w.queue ≡ false
+not_queued w i b m = elim (cases_Bool (among i w.queue)) [
+  | inl a ↦ absurd (true≢false (sym (b.queued i a) ∙ m))
+  | inr a ↦ a
+]
+
 -- one job more is marked and queued, which every closed set holds
 pub mark_base : (w : Work) (i : ℕ) → SoundMarks w → CanBeLoosened w i → SoundMarks (with_loose w i)
 mark_base w i b m =
     let k : i < length w.marks = omega (arith, b.len, m.is_job) in
     record {
       size = length-set w.marks i loose ∙ b.size;
+      counters = b.counters;
+      lawful = b.lawful;
       len = omega (arith, length-set w.marks i loose, b.len);
       bits = λ v h. elim (cases_eq v i) [
         | inl e ↦ inl (subst (λ n. get_or (set w.marks i loose) n held ≡ loose) (sym e) (get_or-set_same w.marks i loose held k))
@@ -108,6 +148,11 @@ mark_base w i b m =
         | inl e ↦ subst (Loosened w.rows) (sym e) m.loosened
         | inr d ↦ b.sound v (sym (marked_set w.marks i v k d) ∙ h)
       ];
+      queued = λ v a. elim (cases_eq v i) [
+        | inl e ↦ subst (λ k. is_loose (set w.marks i loose) k ≡ true) (sym e) (marked_here w.marks i k)
+        | inr d ↦ marked_still w.marks i v k (b.queued v (among_before_a_push v i w.queue d a))
+      ];
+      once = none_twice_pushed i w.queue b.once (not_queued w i b m.unmarked);
       few = omega (arith, b.few, length_push w.queue i, one_more w i b m);
     }
 
@@ -119,10 +164,19 @@ queue_room_left w i b m = omega (arith, b.few, b.size, not_all w i b m)
 pub mark_steps : (w : Work) (i : ℕ) → SoundMarks w → CanBeLoosened w i → steps_left (with_loose w i) ≡ steps_left w
 mark_steps w i b m = omega (arith, length_push w.queue i, length-set w.marks i loose, one_more w i b m, not_all w i b m)
 
-pub mark_settled : (w : Work) (i from to : ℕ) (rest : List ℕ) → i < length w.marks → is_loose w.marks i ≡ false → ((v : ℕ) → looked_at (set w.marks i loose) rest v ≡ looked_at w.marks w.queue v) → SettledIn from to w → SettledIn from to (record { rows = w.rows; marks = set w.marks i loose; queue = rest })
-mark_settled w i from to rest l m same s v a b u =
-    let e = count_same (looked_at (set w.marks i loose) rest) (looked_at w.marks w.queue) (at w.rows v).targets (λ t _. same t) in
-    omega (arith, e, s v a b (unmarked_before w.marks i v l u).0)
+-- counters change, and no mark
+pub counters_base : (w : Work) (lacking : List ℕ) → length lacking ≡ length w.lacking → SoundMarks w → SoundMarks (record w { lacking = lacking })
+counters_base w lacking e b = record {
+  size = b.size;
+  counters = e ∙ b.counters;
+  lawful = b.lawful;
+  len = b.len;
+  bits = b.bits;
+  sound = b.sound;
+  queued = b.queued;
+  once = b.once;
+  few = b.few;
+}
 
 -- ---- the loop over the jobs at the start
 
@@ -130,7 +184,7 @@ pub record Started (w : Work) (i : ℕ) : Type 0 where
   pub base : SoundMarks w
   pub later : (v : ℕ) → i ≤ v → is_loose w.marks v ≡ false
   pub none : (v : ℕ) → looked_at w.marks w.queue v ≡ false
-  pub blocked : (v : ℕ) → v < i → is_loose w.marks v ≡ false → 0 < (at w.rows v).need
+  pub blocked : (v : ℕ) → v < i → is_loose w.marks v ≡ false → (0 < get_or w.lacking v 0) × (get_or w.lacking v 0 ≡ (at w.rows v).need)
 
 -- no mark at all
 held_nowhere : (n v : ℕ) → is_loose (replicate n held) v ≡ false
@@ -139,36 +193,49 @@ held_nowhere n v = elim (cases_lt v n) [
   | inr l ↦ ap (λ m. eqb m loose) (get_or_past (replicate n held) v held (omega (arith, length-replicate n held)))
 ]
 
-pub start_base : (rows : List Waiting) → length rows ≤ jobs_max → SoundMarks (record { rows = rows; marks = replicate jobs_max held; queue = [] })
-start_base rows l = record {
+pub start_base : (rows : List Waiting) → lawful rows ≡ true → length rows ≤ jobs_max → SoundMarks (record { rows = rows; marks = replicate jobs_max held; lacking = replicate jobs_max 0; queue = [] })
+start_base rows law l = record {
   size = length-replicate jobs_max held;
+  counters = length-replicate {A = ℕ} jobs_max 0;
+  lawful = law;
   len = omega (arith, length-replicate jobs_max held);
   bits = λ v h. inr (get_or-replicate jobs_max v held held (omega arith));
   sound = λ v m. absurd (true≢false (sym m ∙ held_nowhere jobs_max v));
+  queued = λ v a. absurd (true≢false (sym a));
+  once = tt;
   few = omega arith;
 }
 
-pub start_zero : (rows : List Waiting) → length rows ≤ jobs_max → Started (record { rows = rows; marks = replicate jobs_max held; queue = [] }) 0
-start_zero rows l = record {
-  base = start_base rows l;
+pub start_zero : (rows : List Waiting) → lawful rows ≡ true → length rows ≤ jobs_max → Started (record { rows = rows; marks = replicate jobs_max held; lacking = replicate jobs_max 0; queue = [] }) 0
+start_zero rows law l = record {
+  base = start_base rows law l;
   later = λ v h. held_nowhere jobs_max v;
   none = λ v. rw (held_nowhere jobs_max v);
   blocked = λ v h m. absurd (omega arith);
 }
 
 -- an empty queue, and no mark
-pub start_made : (rows : List Waiting) (queue : Held ℕ) → queue ≡ vacant jobs_max → length rows ≤ jobs_max → SoundMarks (record { rows = rows; marks = replicate jobs_max held; queue = queue.items }) × (queue.capacity ≡ jobs_max)
-start_made rows queue e l = rw e (start_base rows l, refl)
+pub start_made : (rows : List Waiting) (queue : Held ℕ) → queue ≡ vacant jobs_max → lawful rows ≡ true → length rows ≤ jobs_max → SoundMarks (record { rows = rows; marks = replicate jobs_max held; lacking = replicate jobs_max 0; queue = queue.items }) × (queue.capacity ≡ jobs_max)
+start_made rows queue e law l = rw e (start_base rows law l, refl)
 
-pub start_first : (rows : List Waiting) (queue : Held ℕ) → queue ≡ vacant jobs_max → length rows ≤ jobs_max → Started (record { rows = rows; marks = replicate jobs_max held; queue = queue.items }) 0
-start_first rows queue e l = rw e (start_zero rows l)
+pub start_first : (rows : List Waiting) (queue : Held ℕ) → queue ≡ vacant jobs_max → lawful rows ≡ true → length rows ≤ jobs_max → Started (record { rows = rows; marks = replicate jobs_max held; lacking = replicate jobs_max 0; queue = queue.items }) 0
+start_first rows queue e law l = rw e (start_zero rows law l)
 
-pub start_skip : (w : Work) (i : ℕ) → Started w i → ((at w.rows i).need ≡ 0 → ⊥) → Started w (i + 1)
-start_skip w i s b = record {
-  base = s.base;
+pub start_skip : (w : Work) (i need : ℕ) → i < length w.rows → Started w i → need ≡ (at w.rows i).need → (need ≡ 0 → ⊥) → Started (record w { lacking = set w.lacking i need }) (i + 1)
+start_skip w i need l s e b = record {
+  base = counters_base w (set w.lacking i need) (length-set w.lacking i need) s.base;
   later = λ v l. s.later v (omega arith);
   none = s.none;
-  blocked = λ v l m. elim (cases_eq v i) [ inl e ↦ rw e (omega arith) | inr d ↦ s.blocked v (omega arith) m ];
+  blocked = λ v h m. elim (cases_eq v i) [
+    | inl q ↦
+        let here : get_or (set w.lacking i need) v 0 ≡ need =
+        ap (λ k. get_or (set w.lacking i need) k 0) q ∙ get_or-set_same w.lacking i need 0 (omega (arith, s.base.counters, s.base.size, s.base.len)) in
+        (omega (arith, here, b), here ∙ e ∙ ap (λ k. (at w.rows k).need) (sym q))
+    | inr d ↦
+        let there : get_or (set w.lacking i need) v 0 ≡ get_or w.lacking v 0 = get_or-set_other w.lacking i v need 0 d in
+        let p = s.blocked v (omega arith) m in
+        (omega (arith, there, p.0), there ∙ p.1)
+  ];
 }
 
 -- an active job can be marked
@@ -186,97 +253,198 @@ start_mark w i can s =
     }
 
 pub start_settled : (w : Work) (i : ℕ) → length w.rows ≤ i → Started w i → Settled w
-start_settled w i l s v a b m =
+start_settled w i l s v b m =
     let none = count_none (looked_at w.marks w.queue) (at w.rows v).targets s.none in
-    omega (arith, none, s.blocked v (omega arith) m)
+    let p = s.blocked v (omega arith) m in
+    (p.0, omega (arith, none, p.1))
 
--- ---- one pass over the waiters of a job
+-- ---- from waiter to waiter of a job
 
-pub record Passing (w₀ : Work) (job i : ℕ) (w : Work) : Type 0 where
+-- Those that are left still lack the job at hand, and no other does.
+abbrev pub queue_of : (left : List ℕ) (job : ℕ) (queue : List ℕ) → ℕ → List ℕ
+queue_of left job queue v = cond (among v left) (job ∷ queue) queue
+
+pub record Lowering (w₀ : Work) (job : ℕ) (left : List ℕ) (w : Work) : Type 0 where
   pub rows : w.rows ≡ w₀.rows
   pub base : SoundMarks w
-  pub before : SettledIn 0 i w
-  pub behind : SettledIn i (length w.rows) (at_hand w job)
+  pub marked : is_loose w.marks job ≡ true
+  pub apart : among job w.queue ≡ false
+  pub low : ℕ
+  pub rise : rising low left ≡ true
+  pub wait : (v : ℕ) → among v left ≡ true → among job (at w.rows v).targets ≡ true
+  pub lacks : (v : ℕ) → v < length w.rows → is_loose w.marks v ≡ false → Lacks w (looked_at w.marks (queue_of left job w.queue v)) v
   pub steps : steps_left w ≡ steps_left w₀
 
--- the next job, where nothing is to be marked
-pub pass_next : (w₀ : Work) (job i : ℕ) (w : Work) → Passing w₀ job i w → (is_loose w.marks i ≡ false → count (looked_at w.marks w.queue) (at w.rows i).targets < (at w.rows i).need) → Passing w₀ job (i + 1) w
-pass_next w₀ job i w p here = record {
-  rows = p.rows;
-  base = p.base;
-  before = λ v a b m. elim (cases_eq v i) [
-    | inl e ↦ subst (λ k. count (looked_at w.marks w.queue) (at w.rows k).targets < (at w.rows k).need) (sym e) (here (subst (λ k. is_loose w.marks k ≡ false) e m))
-    | inr d ↦ p.before v a (omega arith) m
+-- the job at hand alone is looked at besides
+at_hand_alone : (w : Work) (job : ℕ) (u : ℕ) → (job ≡ u → ⊥) → looked_at w.marks (job ∷ w.queue) u ≡ looked_at w.marks w.queue u
+at_hand_alone w job u d = let q = ne_eqb job u d in rw q refl
+
+pub lower_start : (w : Work) (job : ℕ) → SoundMarks w → AtHand w job → Lowering w job (waiters w.rows job) w
+lower_start w job b h = record {
+  rows = refl;
+  base = b;
+  marked = h.marked;
+  apart = h.apart;
+  low = 0;
+  rise = waiters_rise w.rows job;
+  wait = λ v a. sym (waiters_are_who_waits w.rows job v) ∙ a;
+  lacks = λ v l m. elim (cases_Bool (among v (waiters w.rows job))) [
+    | inl a ↦ rw a (h.settled v l m)
+    | inr a ↦
+        let other : among job (at w.rows v).targets ≡ false = sym (waiters_are_who_waits w.rows job v) ∙ a in
+        let same = count_same (looked_at w.marks w.queue) (looked_at w.marks (job ∷ w.queue)) (at w.rows v).targets
+        (λ u t. sym (at_hand_alone w job u (λ (e : job ≡ u). true≢false (sym t ∙ subst (λ k. among k (at w.rows v).targets ≡ false) e other)))) in
+        let p = h.settled v l m in
+        rw a (p.0, omega (arith, p.1, same))
   ];
-  behind = λ v a b m. p.behind v (omega arith) b m;
-  steps = p.steps;
+  steps = refl;
 }
 
--- it has its mark
-pub pass_marked : (w₀ : Work) (job i : ℕ) (w : Work) → Passing w₀ job i w → i < length w.rows → (get_or w.marks i 0 ≡ held → ⊥) → Passing w₀ job (i + 1) w
-pass_marked w₀ job i w p l d =
-    pass_next w₀ job i w p (λ m. absurd (go (p.base.bits i l) m))
-  where
-    same : get_or w.marks i held ≡ get_or w.marks i 0
-    same = get_or_default w.marks i held 0 (omega (arith, p.base.len))
+pub lower_end : (w₀ : Work) (job : ℕ) (left : List ℕ) (w : Work) → left ≡ [] → Lowering w₀ job left w → Settled w
+lower_end w₀ job left w e p v l m = rw e at (p.lacks v l m)
 
-    go : (get_or w.marks i held ≡ loose) ⊎ (get_or w.marks i held ≡ held) → is_loose w.marks i ≡ false → ⊥
-    go (inl e) m = true≢false (sym (eq-eqb (get_or w.marks i held) loose e) ∙ m)
-    go (inr e) m = d (sym same ∙ e)
+module _ (w₀ : Work) (job x : ℕ) (left rest : List ℕ) (w : Work) (p : Lowering w₀ job left w) (e : left ≡ x ∷ rest) where
+  x_is_left : among x left ≡ true
+  x_is_left = rw e (let q = eq-eqb x x refl in rw q refl)
 
--- it does not wait for the job
-pub pass_other : (w₀ : Work) (job i : ℕ) (w : Work) → Passing w₀ job i w → i < length w.rows → among job (at w.rows i).targets ≡ false → Passing w₀ job (i + 1) w
-pass_other w₀ job i w p l f =
-    pass_next w₀ job i w p (λ m. omega (arith, p.behind i (omega arith) l m, count_same (looked_at w.marks w.queue) (looked_at w.marks (job ∷ w.queue)) (at w.rows i).targets same))
-  where
-    same : (u : ℕ) → among u (at w.rows i).targets ≡ true → looked_at w.marks w.queue u ≡ looked_at w.marks (job ∷ w.queue) u
-    same u a = elim (cases_eq job u) [
-      | inl e ↦ absurd (true≢false (sym a ∙ subst (λ k. among k (at w.rows i).targets ≡ false) e f))
-      | inr d ↦ let q = ne_eqb job u d in rw q
-    ]
+  pub x_is_a_job : x < length w.rows
+  x_is_a_job = who_waits_is_a_job w.rows x job (p.wait x x_is_left)
 
--- it lacks targets yet
-pub pass_lacking : (w₀ : Work) (job i : ℕ) (w : Work) → Passing w₀ job i w → leb (at w.rows i).need (count (is_loose w.marks) (at w.rows i).targets) ≡ false → Passing w₀ job (i + 1) w
-pass_lacking w₀ job i w p f =
-    pass_next w₀ job i w p (λ m.
-    let less = count_less (looked_at w.marks w.queue) (is_loose w.marks) (at w.rows i).targets (λ u _ d. (and_parts (is_loose w.marks u) _ d).0) in
-    let short : count (is_loose w.marks) (at w.rows i).targets < (at w.rows i).need = grind (arith, nat_tests) in
-    omega arith)
+  rest_rises : rising (x + 1) rest ≡ true
+  rest_rises = (and_parts (leb p.low x) (rising (x + 1) rest) (rw e at p.rise)).1
 
--- whichever part of the test fails
-pub pass_not : (w₀ : Work) (job i : ℕ) (w : Work) → Passing w₀ job i w → i < length w.rows → next_is w job i ≡ false → Passing w₀ job (i + 1) w
-pass_not w₀ job i w p l f = elim (cases_Bool (eqb (get_or w.marks i 0) held)) [
-  | inr a ↦ pass_marked w₀ job i w p l (λ e. true≢false (sym (eq-eqb (get_or w.marks i 0) held e) ∙ a))
-  | inl a ↦ elim (cases_Bool (among job (at w.rows i).targets)) [
-    | inr b ↦ pass_other w₀ job i w p l b
-    | inl b ↦ pass_lacking w₀ job i w p (rw (a, b) at f)
+  x_is_not_in_rest : among x rest ≡ false
+  x_is_not_in_rest = elim (cases_Bool (among x rest)) [
+    | inl a ↦ absurd (omega (arith, among_rising_is_not_below (x + 1) rest x rest_rises a))
+    | inr a ↦ a
   ]
-]
 
--- a job that is to be marked can be
-pub pass_can : (w₀ : Work) (job i : ℕ) (w : Work) → Passing w₀ job i w → i < length w.rows → next_is w job i ≡ true → CanBeLoosened w i
-pass_can w₀ job i w p l t =
-    let k : i < length w.marks = omega (arith, p.base.len) in
-    let a = and_parts (eqb (get_or w.marks i 0) held) _ t in
-    let f = (and_parts (among job (at w.rows i).targets) _ a.1).1 in
-    let enough : (at w.rows i).need ≤ count (is_loose w.marks) (at w.rows i).targets = grind (arith, nat_tests) in
-    record {
-      is_job = l;
-      unmarked = ap (λ n. eqb n loose) (get_or_default w.marks i held 0 k ∙ eqb-true (get_or w.marks i 0) held a.0);
-      loosened = λ S c. closed_at w.rows S c i l (omega (arith, count_less (is_loose w.marks) S (at w.rows i).targets (λ u _ h. p.base.sound u h S c)));
+  rest_is_left : (v : ℕ) → among v rest ≡ true → among v left ≡ true
+  rest_is_left v a = rw e (or_right (eqb x v) (among v rest) a)
+
+  others_are_as_before : (v : ℕ) → (v ≡ x → ⊥) → queue_of left job w.queue v ≡ queue_of rest job w.queue v
+  others_are_as_before v d = let q = ne_eqb x v (λ k. d (sym k)) in rw (e, q) refl
+
+  -- One target more is done, of those of x.
+  one_target_more : count (looked_at w.marks w.queue) (at w.rows x).targets ≡ count (looked_at w.marks (job ∷ w.queue)) (at w.rows x).targets + 1
+  one_target_more =
+      count_one_more (looked_at w.marks (job ∷ w.queue)) (looked_at w.marks w.queue) 0 (at w.rows x).targets job
+      (and_parts _ _ (fits_shaped (length w.rows) x (at w.rows x) (lawful_at w.rows p.base.lawful x x_is_a_job))).1
+      (p.wait x x_is_left)
+      (let q = eq-eqb job job refl in rw (p.marked, q) refl)
+      (let a = p.apart in rw (p.marked, a) refl)
+      (at_hand_alone w job)
+
+  module _ (m : is_loose w.marks x ≡ false) where
+    x_lacks : (0 < get_or w.lacking x 0) × (get_or w.lacking x 0 + count (looked_at w.marks (job ∷ w.queue)) (at w.rows x).targets ≡ (at w.rows x).need)
+    x_lacks = rw x_is_left at (p.lacks x x_is_a_job m)
+
+    x_can_be_loosened : get_or w.lacking x 0 ≡ 1 → CanBeLoosened w x
+    x_can_be_loosened last = record {
+      is_job = x_is_a_job;
+      unmarked = m;
+      loosened = λ S c.
+          closed_at w.rows S c x x_is_a_job
+          (omega (
+            arith,
+            x_lacks.1,
+            one_target_more,
+            count_less (looked_at w.marks w.queue) S (at w.rows x).targets (λ u _ d. p.base.sound u (and_parts (is_loose w.marks u) _ d).0 S c),
+          ));
     }
 
--- it is marked
-pub pass_mark : (w₀ : Work) (job i : ℕ) (w : Work) → Passing w₀ job i w → CanBeLoosened w i → Passing w₀ job (i + 1) (with_loose w i)
-pass_mark w₀ job i w p can =
-    let k : i < length w.marks = omega (arith, p.base.len, can.is_job) in
-    record {
-      rows = p.rows;
-      base = mark_base w i p.base can;
-      before = λ v a b u. let d = unmarked_before w.marks i v k u in mark_settled w i 0 i (w.queue ++ i ∷ []) k can.unmarked (λ t. done_same w.marks w.queue i t k can.unmarked) p.before v a (elim (cases_eq v i) [ inl q ↦ absurd (d.1 q) | inr q ↦ omega arith ]) u;
-      behind = λ v a b u. mark_settled (at_hand w job) i i (length w.rows) (job ∷ (w.queue ++ i ∷ [])) k can.unmarked (λ t. done_same w.marks (job ∷ w.queue) i t k can.unmarked) p.behind v (omega arith) b u;
-      steps = mark_steps w i p.base can ∙ p.steps;
-    }
+  pub can_have_target : CanHaveTarget w x
+  can_have_target = record { is_job = x_is_a_job; lacks = λ m. (x_lacks m).0; last = x_can_be_loosened }
+
+  -- The rest, where marks and queue are as they were.
+  lower_on : (lacking : List ℕ) → length lacking ≡ length w.lacking
+      → ((v : ℕ) → v < length w.rows → is_loose w.marks v ≡ false → Lacks (record w { lacking = lacking }) (looked_at w.marks (queue_of rest job w.queue v)) v)
+      → Lowering w₀ job rest (record w { lacking = lacking })
+  lower_on lacking long all = record {
+    rows = p.rows;
+    base = counters_base w lacking long p.base;
+    marked = p.marked;
+    apart = p.apart;
+    low = x + 1;
+    rise = rest_rises;
+    wait = λ v a. p.wait v (rest_is_left v a);
+    lacks = all;
+    steps = p.steps;
+  }
+
+  lower_marked : is_loose w.marks x ≡ true → Lowering w₀ job rest w
+  lower_marked m =
+      lower_on w.lacking refl
+      (λ v l u. elim (cases_eq v x) [
+        | inl q ↦ absurd (true≢false (sym m ∙ subst (λ k. is_loose w.marks k ≡ false) q u))
+        | inr d ↦ subst (λ q. Lacks w (looked_at w.marks q) v) (others_are_as_before v d) (p.lacks v l u)
+      ])
+
+  module _ (m : is_loose w.marks x ≡ false) where
+    less : List ℕ
+    less = set w.lacking x (get_or w.lacking x 0 - 1)
+
+    less_here : get_or less x 0 ≡ get_or w.lacking x 0 - 1
+    unfolding less
+    less_here = get_or-set_same w.lacking x (get_or w.lacking x 0 - 1) 0 (omega (arith, x_is_a_job, p.base.counters, p.base.size, p.base.len))
+
+    less_there : (v : ℕ) → (v ≡ x → ⊥) → get_or less v 0 ≡ get_or w.lacking v 0
+    unfolding less
+    less_there v d = get_or-set_other w.lacking x v (get_or w.lacking x 0 - 1) 0 d
+
+    others_lack : (v : ℕ) → (v ≡ x → ⊥) → v < length w.rows → is_loose w.marks v ≡ false → Lacks (record w { lacking = less }) (looked_at w.marks (queue_of rest job w.queue v)) v
+    others_lack v d l u =
+        let q = subst (λ q. Lacks w (looked_at w.marks q) v) (others_are_as_before v d) (p.lacks v l u) in
+        (omega (arith, q.0, less_there v d), omega (arith, q.1, less_there v d))
+
+    lower_one : (get_or w.lacking x 0 ≡ 1 → ⊥) → Lowering w₀ job rest (one_less w x)
+    unfolding less
+    lower_one more =
+        lower_on less (length-set w.lacking x (get_or w.lacking x 0 - 1))
+        (λ v l u. elim (cases_eq v x) [
+          | inl q ↦
+              subst (λ k. Lacks (record w { lacking = less }) (looked_at w.marks (queue_of rest job w.queue k)) k) (sym q)
+              (rw x_is_not_in_rest (omega (arith, (x_lacks m).0, less_here, more), omega (arith, (x_lacks m).0, (x_lacks m).1, less_here, one_target_more)))
+          | inr d ↦ others_lack v d l u
+        ])
+
+    lower_last : get_or w.lacking x 0 ≡ 1 → Lowering w₀ job rest (with_loose (one_less w x) x)
+    unfolding less
+    lower_last last =
+        let can = x_can_be_loosened m last in
+        let one = counters_base w less (length-set w.lacking x (get_or w.lacking x 0 - 1)) p.base in
+        let k : x < length w.marks = omega (arith, p.base.len, x_is_a_job) in
+        let can_one : CanBeLoosened (one_less w x) x = record { is_job = can.is_job; unmarked = can.unmarked; loosened = can.loosened } in
+        record {
+          rows = p.rows;
+          base = mark_base (one_less w x) x one can_one;
+          marked = marked_still w.marks x job k p.marked;
+          apart = among_push job x w.queue ∙ (let a = p.apart in let q = ne_eqb x job (λ e. true≢false (sym p.marked ∙ subst (λ k. is_loose w.marks k ≡ false) e m)) in rw (a, q) refl);
+          low = x + 1;
+          rise = rest_rises;
+          wait = λ v a. p.wait v (rest_is_left v a);
+          lacks = λ v l u.
+              let was = unmarked_before w.marks x v k u in
+              let q = others_lack v was.1 l was.0 in
+              (q.0, omega (arith, q.1, count_same (looked_at (set w.marks x loose) (queue_of rest job (w.queue ++ x ∷ []) v)) (looked_at w.marks (queue_of rest job w.queue v)) (at w.rows v).targets (λ t _. queued_more v t)));
+          steps = mark_steps (one_less w x) x one can_one ∙ p.steps;
+        }
+      where
+        queued_more : (v t : ℕ) → looked_at (set w.marks x loose) (queue_of rest job (w.queue ++ x ∷ []) v) t ≡ looked_at w.marks (queue_of rest job w.queue v) t
+        queued_more v t = go (among v rest)
+          where
+            go : (b : Bool) → looked_at (set w.marks x loose) (cond b (job ∷ (w.queue ++ x ∷ [])) (w.queue ++ x ∷ [])) t ≡ looked_at w.marks (cond b (job ∷ w.queue) w.queue) t
+            go true = done_same w.marks (job ∷ w.queue) x t (omega (arith, p.base.len, x_is_a_job)) m
+            go false = done_same w.marks w.queue x t (omega (arith, p.base.len, x_is_a_job)) m
+
+  pub lower_next : Lowering w₀ job rest (with_target w x)
+  lower_next = elim (cases_Bool (is_loose w.marks x)) [
+    | inl m ↦ rw m (lower_marked m)
+    | inr m ↦ elim (cases_eq (get_or w.lacking x 0) 1) [
+      | inl l ↦ rw (m, eq-eqb (get_or w.lacking x 0) 1 l) (lower_last m l)
+      | inr d ↦ rw (m, ne_eqb (get_or w.lacking x 0) 1 d) (lower_one m d)
+    ]
+  ]
 
 -- ---- the end
 
@@ -291,7 +459,7 @@ all_decided w none b s = record {
     all v = rw none (grind (arith, nat_tests))
 
     short : (v : ℕ) → v < length w.rows → is_loose w.marks v ≡ false → count (is_loose w.marks) (at w.rows v).targets < (at w.rows v).need
-    short v h m = let e = count_same (looked_at w.marks w.queue) (is_loose w.marks) (at w.rows v).targets (λ u _. all u) in omega (arith, e, s v (omega arith) h m)
+    short v h m = let e = count_same (looked_at w.marks w.queue) (is_loose w.marks) (at w.rows v).targets (λ u _. all u) in let p = s v h m in omega (arith, e, p.0, p.1)
 
     closed : Closed w.rows (is_loose w.marks)
     closed = record {

@@ -1,14 +1,16 @@
 -- How far a reduction has come: what its steps keep.
-use Rattle.std.specs.Prelude.{◌≡◌, ℕ, ◌+◌, ◌-◌, ◌<◌, ◌≤◌, Bool, true, false, not, ◌&&◌, ◌⊎◌, ◌↔◌, List, [], ◌∷◌, ◌++◌, length, count_by, ◌==◌, nat_eq, nat_le, slice_index, slice_index_or, slice_set}
+use Rattle.std.specs.Prelude.{◌≡◌, ℕ, ◌+◌, ◌-◌, ◌<◌, ◌≤◌, Bool, true, false, cond, not, ◌&&◌, ◌⊎◌, ◌↔◌, List, [], ◌∷◌, ◌++◌, length, count_by, ◌==◌, nat_eq, slice_index, slice_index_or, slice_set}
 use Rattle.rows.specs.Waiting.{Waiting, at, among}
 use Rattle.tables.specs.Closed.{count, Loosened}
-use Rattle.tables.specs.Tables.{jobs_max}
+use Rattle.tables.specs.Tables.{jobs_max, lawful}
 use Rattle.reduction.specs.Marks.{loose, held, is_loose}
 
--- The rows of the table, the jobs' marks, and the queued jobs: those that are marked, whose waiters are still to be looked at.
+-- The rows of the table, the jobs' marks, how many targets each job that is not marked lacks, and the queued jobs: those that are marked,
+-- whose waiters are still to be looked at.
 pub record Work : Type 0 where
   pub rows : List Waiting
   pub marks : List ℕ
+  pub lacking : List ℕ
   pub queue : List ℕ
 
 -- How many jobs are marked.
@@ -23,25 +25,41 @@ steps_left w = length w.queue + (length w.marks - loose_count w.marks)
 abbrev pub looked_at : (marks queue : List ℕ) → ℕ → Bool
 looked_at marks queue v = is_loose marks v && not (among v queue)
 
--- There is a mark for each job, 0 or 1; marked jobs are loosened; and no more are queued than are marked.
+-- No number stands in a list twice.
+abbrev pub NoneTwice : List ℕ → Type 0
+NoneTwice [] = Unit {0}
+NoneTwice (x ∷ xs) = (among x xs ≡ false) × NoneTwice xs
+
+-- There is a mark and a counter for each job, of a lawful table, and a mark is 0 or 1; marked jobs are loosened; each queued job is marked, and is queued
+-- once; and no more are queued than are marked.
 pub record SoundMarks (w : Work) : Type 0 where
   pub size : length w.marks ≡ jobs_max
+  pub counters : length w.lacking ≡ jobs_max
+  pub lawful : lawful w.rows ≡ true
   pub len : length w.rows ≤ length w.marks
   pub bits : (v : ℕ) → v < length w.rows → (slice_index_or w.marks v held ≡ loose) ⊎ (slice_index_or w.marks v held ≡ held)
   pub sound : (v : ℕ) → is_loose w.marks v ≡ true → Loosened w.rows v
+  pub queued : (v : ℕ) → among v w.queue ≡ true → is_loose w.marks v ≡ true
+  pub once : NoneTwice w.queue
   pub few : length w.queue ≤ loose_count w.marks
 
--- A job from `from` up to `to` that is not marked has fewer targets done than it needs.
-abbrev pub SettledIn : (from to : ℕ) → Work → Type 0
-SettledIn from to w = (v : ℕ) → from ≤ v → v < to → is_loose w.marks v ≡ false → count (looked_at w.marks w.queue) (at w.rows v).targets < (at w.rows v).need
+-- A job lacks what it needs, less its targets that are done; and it lacks some.
+abbrev pub Lacks : Work → (done : ℕ → Bool) → ℕ → Type 0
+Lacks w done v = (0 < slice_index w.lacking v) × (slice_index w.lacking v + count done (at w.rows v).targets ≡ (at w.rows v).need)
 
--- So it is of every job.
+-- Each job that is not marked lacks what it needs, less its targets whose waiters have been looked at.
 abbrev pub Settled : Work → Type 0
-Settled w = SettledIn 0 (length w.rows) w
+Settled w = (v : ℕ) → v < length w.rows → is_loose w.marks v ≡ false → Lacks w (looked_at w.marks w.queue) v
 
 -- A job more is at hand, before those that are queued.
 abbrev pub at_hand : Work → ℕ → Work
 at_hand w job = record w { queue = job ∷ w.queue }
+
+-- A marked job was taken from the queue, and its waiters are to be looked at.
+pub record AtHand (w : Work) (job : ℕ) : Type 0 where
+  pub settled : Settled (at_hand w job)
+  pub marked : is_loose w.marks job ≡ true
+  pub apart : among job w.queue ≡ false
 
 -- A job can be marked: it is not yet, and every closed set holds it.
 pub record CanBeLoosened (w : Work) (job : ℕ) : Type 0 where
@@ -53,15 +71,24 @@ pub record CanBeLoosened (w : Work) (job : ℕ) : Type 0 where
 abbrev pub with_loose : Work → ℕ → Work
 with_loose w job = record w { marks = slice_set w.marks job loose; queue = w.queue ++ job ∷ [] }
 
+-- A job lacks one target less.
+abbrev pub one_less : Work → ℕ → Work
+one_less w job = record w { lacking = slice_set w.lacking job (slice_index w.lacking job - 1) }
+
+-- A target of a job is done: unless it is marked, it lacks one less, and where it then lacks none it is marked.
+abbrev pub with_target : Work → ℕ → Work
+with_target w job =
+    cond (is_loose w.marks job) w
+    (cond (slice_index w.lacking job == 1) (with_loose (one_less w job) job) (one_less w job))
+
+-- A target of a job can be done: where the job is not marked, it lacks some, and can be marked if that is the last.
+pub record CanHaveTarget (w : Work) (job : ℕ) : Type 0 where
+  pub is_job : job < length w.rows
+  pub lacks : is_loose w.marks job ≡ false → 0 < slice_index w.lacking job
+  pub last : is_loose w.marks job ≡ false → slice_index w.lacking job ≡ 1 → CanBeLoosened w job
+
 -- Every mark is 0 or 1, and 0 exactly for the loosened jobs.
 pub record Decided (rows : List Waiting) (marks : List ℕ) : Type 0 where
   pub len : length rows ≤ length marks
   pub bits : (v : ℕ) → v < length rows → (slice_index_or marks v held ≡ loose) ⊎ (slice_index_or marks v held ≡ held)
   pub loosened : (v : ℕ) → v < length rows → (is_loose marks v ≡ true) ↔ Loosened rows v
-
--- A job is to be marked: it is not yet, it waits for the one at hand, and has as many targets marked as it needs.
-abbrev pub next_is : Work → (job v : ℕ) → Bool
-next_is w job v =
-    (slice_index w.marks v == held)
-    && (among job (at w.rows v).targets
-    && nat_le (at w.rows v).need (count (is_loose w.marks) (at w.rows v).targets))

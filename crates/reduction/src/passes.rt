@@ -7,7 +7,7 @@ ghost use Rattle.reduction.specs.Reduced.{stop, Reduced};
 use crate::fault::ReductionFault;
 use crate::marking::Marking;
 use containers::{Container, Queue};
-use tables::{JOBS_MAX, Table};
+use tables::{INDEX_WORDS, Indexed, JOBS_MAX, Table, TwoWayTable};
 
 /// Writes 0 for each loosened job of a table and 1 for each other into the first bytes; those behind stay as they are. Refused with 10
 /// where there are fewer bytes than jobs, and then all bytes stay as they are.
@@ -19,13 +19,14 @@ pub fn reduce<T: Table>(table: &T, bytes: &mut [u8]) -> Result<(), ReductionFaul
     if bytes.len() < jobs {
         return Err(ReductionFault::TooShort);
     }
-    let marks = marks_of(table);
+    let mut words = [0; INDEX_WORDS];
+    let marks = marks_of(&Indexed::new(table, &mut words));
     bytes[..jobs].copy_from_slice(&marks[..jobs]);
     Ok(())
 }
 
 // The marks of a table's jobs, when no more can be loosened.
-fn marks_of<T: Table>(table: &T) -> [u8; JOBS_MAX]
+fn marks_of<T: TwoWayTable>(table: &T) -> [u8; JOBS_MAX]
     ensures { Decided (T.Table.rows table.now) result }
 {
     let mut cells = [0; JOBS_MAX];
