@@ -10,20 +10,13 @@ use crate::message::{Kind, Message, Wait};
 use crate::picked::Picked;
 use containers::{Container, Queue, Stack};
 
-// What lies in the place that the carrier lends, until a message is taken into it.
-const BLANK: Message = Message {
-    wait: Wait {
-        waiter: 0,
-        target: 0,
-    },
-    kind: Kind::Notify,
-};
-
-// The messages that wait, and how many were handed out, modulo 2^32.
+/// The messages that wait, and how many were handed out, modulo 2^32.
 #[derive(Drop)]
 pub struct Counted<C> {
     messages: C,
     handed: u32,
+    // What lies in the place that is lent for a message, before one is taken into it.
+    blank: Message,
 }
 
 // The carrier that hands out the oldest message.
@@ -44,6 +37,13 @@ impl<C: Container<Message>> Counted<C> {
         Counted {
             messages,
             handed: 0,
+            blank: Message {
+                wait: Wait {
+                    waiter: 0,
+                    target: 0,
+                },
+                kind: Kind::Notify,
+            },
         }
     }
 }
@@ -96,7 +96,8 @@ impl<C: Container<Message>> Carrier for Counted<C> {
         ensures took { Took (carried_by C.Container.held self.old) (carried_by C.Container.held self.new) result }
         ensures order { MatchOption result (container self.new ≡ container self.old) (λ message. C.Container.gives (container self.old) message (container self.new)) }
     {
-        let mut message = BLANK;
+        // made here, field by field, the place would be read byte by byte
+        let mut message = self.blank;
         if !self.messages.take(&mut message) {
             return None;
         }

@@ -76,9 +76,9 @@ impl<'a, T: Copy> Container<T> for Queue<'a, T> {
         if self.len == 0 {
             return false;
         }
+        self.len -= 1;
         *out = self.cells[self.head];
         self.head = next_cell(self.head, self.cells.len());
-        self.len -= 1;
         true
     }
 }
