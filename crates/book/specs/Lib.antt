@@ -3,7 +3,6 @@ pub mod Law
 pub mod Moments
 pub mod Performing
 pub mod Tickets
-
 -- What the contracts of a book cite from the rooms below, so that a client has to list none of these.
 pub use Rattle.histories.specs.Answers
 pub use Rattle.histories.specs.Calls
