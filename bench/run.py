@@ -147,6 +147,27 @@ def deliveries_a_second(bench, repetitions):
         table(["e", "deliveries", *(f"{n}, millions/s" for n in PROGRAMS), "waits/plain", "waits/indexed"], rows)
 
 
+def detections(bench, repetitions):
+    """Microseconds of a detection, by the best time less the best of the empty script: in rings, and where few of the jobs wait."""
+    times, _ = bench.times(b"", 20 * repetitions)
+    base = {name: min(all_times) for name, all_times in times.items()}
+    cases = [(f"ring, {targets} targets", scripts.ring, targets) for targets in (1, 2, 4, 8, 16)]
+    cases += [(f"{waits} waits", scripts.few_waits, waits) for waits in (2, 8, 32, 64)]
+    rows = []
+    for label, make, size in cases:
+        for free in (False, True):
+            times, seen = bench.times(make(size, free), repetitions)
+            made = len(seen[0]) // 4
+            took = {n: (min(all_times) - base[n]) / made * 1e6 for n, all_times in times.items()}
+            rows.append(
+                [label, "free" if free else "stuck", str(deliveries_of(seen[0]) // made)]
+                + [f"{took[n]:.2f}" for n in PROGRAMS]
+                + [f"{took['waits'] / took[other]:.2f}" for other in ("plain", "indexed")]
+            )
+    head = ["script", "verdict", "deliveries", *(f"{n}, µs" for n in PROGRAMS), "waits/plain", "waits/indexed"]
+    table(head, rows)
+
+
 def fuzz(bench, seed, count):
     """Random scripts, on which the programs must write and end alike."""
     rng = random.Random(seed)
@@ -166,7 +187,7 @@ def main():
     parser.add_argument("--repetitions", type=int, default=8)
     parser.add_argument("--fuzz", type=int, default=4000, help="how many random scripts")
     parser.add_argument("--seed", type=int, default=1)
-    parser.add_argument("--only", choices=["compare", "deliveries", "fuzz"])
+    parser.add_argument("--only", choices=["compare", "deliveries", "detections", "fuzz"])
     parser.add_argument("--waits", type=Path, help="another build of waits")
     options = parser.parse_args()
     if options.waits:
@@ -184,6 +205,8 @@ def main():
                 compare(bench, options.seed, options.repetitions)
             if options.only in (None, "deliveries"):
                 deliveries_a_second(bench, options.repetitions)
+            if options.only in (None, "detections"):
+                detections(bench, options.repetitions)
         except Disagreement as disagreement:
             sys.exit(f"the programs disagree: {disagreement}")
 

@@ -184,6 +184,25 @@ def ring_free(waits, deliveries):
     return waits, with_detections(setup, range(1, jobs), max(1, deliveries // (4 * waits)))
 
 
+def ring(targets, free):
+    """Each of the 256 jobs has as targets those after it, and needs one of them if free, all if stuck; job 0 is active if free."""
+    first = 1 if free else 0
+    setup = b"".join(
+        request(job, 1 if free else targets, [(job + step) % JOBS for step in range(1, targets + 1)])
+        for job in range(first, JOBS)
+    )
+    return with_detections(setup, range(JOBS), 2000)
+
+
+def few_waits(waits, free):
+    """So many jobs of the 256 wait for one each: in a chain whose end is active if free, in a circle if stuck."""
+    if free:
+        setup = b"".join(request(job, 1, [job - 1]) for job in range(1, waits + 1))
+    else:
+        setup = b"".join(request(job, 1, [(job + 1) % waits]) for job in range(waits))
+    return with_detections(setup, [waits if free else 0], 3800)
+
+
 def random_script(rng):
     """A script for the fuzz: most of them damaged."""
     kind = rng.random()
