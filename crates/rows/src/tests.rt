@@ -1,5 +1,5 @@
 // Requests and grants on examples.
-use crate::plain::{Row, RowFault};
+use crate::plain::{PlainRow, Row, RowFault, TARGETS_MAX};
 use std::test::Fail;
 
 // Sixteen targets, and one more.
@@ -50,5 +50,31 @@ fn grants(rt: HostRuntime) -> Result<(), Fail> {
             assert!(rt; is_row(&twice, 0, &[]));
         }
     }
+    Ok(())
+}
+
+#[test]
+fn stored(rt: HostRuntime) -> Result<(), Fail> {
+    // the same need and targets, made in two ways
+    let (Ok(made), Ok(wide)) = (
+        Row::request(18, 2, 1, &[3]),
+        Row::request(18, 2, 2, &[1, 3]),
+    ) else {
+        return Err(Fail::new("no row"));
+    };
+    assert!(rt; made != wide);
+    assert!(rt; wide.granted(1) == Some(made));
+    let mut targets = [0; TARGETS_MAX];
+    targets[0] = 3;
+    let mut plain = PlainRow {
+        need: 1,
+        count: 1,
+        targets,
+    };
+    assert!(rt; PlainRow::from(made) == plain);
+    assert!(rt; Row::try_from(plain) == Ok(made));
+    // a place that no target is in
+    plain.targets[15] = 7;
+    assert!(rt; Row::try_from(plain).is_err());
     Ok(())
 }
