@@ -4,7 +4,7 @@ use Rattle.std.specs.Option.{option_map}
 use Rattle.std.specs.Result.{result_err}
 use Rattle.carriers.specs.declared.carrier.CarrierFull.{CarrierFull}
 
--- As many messages wait as the carrier's capacity. It carries no value.
+-- 12: as many messages wait as the carrier has room for. It carries no value.
 abbrev pub number : CarrierFull → ℕ
 number full = 12
 

@@ -8,7 +8,7 @@ use containers::Full;
 
 const CARRIER_FULL: u8 = 12;
 
-// The refusal of a put: as many messages wait as the carrier's capacity.
+/// The refusal of a put: as many messages wait as the carrier's capacity.
 #[derive(Clone, Copy, Drop, PartialEq, Eq, Debug)]
 pub struct CarrierFull;
 
@@ -28,8 +28,8 @@ impl From<Full> for CarrierFull {
     }
 }
 
-// A carrier holds messages that wait, as many as its capacity, and hands them out one by one. Which message comes next is
-// free: whoever knows no more than this trait cannot lean on an order.
+/// A carrier holds messages that wait, as many as its capacity, and hands them out one by one. Which message comes next is
+/// free: whoever knows no more than this trait cannot lean on an order.
 pub trait Carrier {
     // The messages that wait, the capacity, and how many were handed out, modulo 2^32.
     ghost carried: { Self → Carried };

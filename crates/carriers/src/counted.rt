@@ -19,17 +19,17 @@ pub struct Counted<C> {
     blank: Message,
 }
 
-// The carrier that hands out the oldest message.
+/// The carrier that hands out the oldest message.
 pub type QueueCarrier<'a> = Counted<Queue<'a, Message>>;
 
-// The carrier that hands out the newest message.
+/// The carrier that hands out the newest message.
 pub type StackCarrier<'a> = Counted<Stack<'a, Message>>;
 
-// The carrier that hands out the messages in an order that its user picks.
+/// The carrier that hands out the messages in an order that its user picks.
 pub type Picker<'a, 'p> = Counted<Picked<'a, 'p>>;
 
 impl<C: Container<Message>> Counted<C> {
-    // The carrier in which the container's messages wait; it has handed out none.
+    /// The carrier in which the container's messages wait; it has handed out none.
     pub fn over(messages: C) -> Counted<C>
         ensures messages { container result ≡ messages }
         ensures carried { carried_by C.Container.held result ≡ carried_from (C.Container.held messages) 0 }
@@ -50,7 +50,7 @@ impl<C: Container<Message>> Counted<C> {
 
 // Each of the three names has a constructor of its own: no plainer as one, since what the memory is made into differs.
 impl<'a> QueueCarrier<'a> {
-    // A carrier in which nothing waits, with room for as many messages as there are cells; it has handed out none.
+    /// A carrier in which nothing waits, with room for as many messages as there are cells; it has handed out none.
     pub fn new(cells: &'a mut [Message]) -> QueueCarrier<'a>
         ensures { held_carried result ≡ new_carrier (length cells.old) }
     {
@@ -59,7 +59,7 @@ impl<'a> QueueCarrier<'a> {
 }
 
 impl<'a> StackCarrier<'a> {
-    // A carrier in which nothing waits, with room for as many messages as there are cells; it has handed out none.
+    /// A carrier in which nothing waits, with room for as many messages as there are cells; it has handed out none.
     pub fn new(cells: &'a mut [Message]) -> StackCarrier<'a>
         ensures { held_carried result ≡ new_carrier (length cells.old) }
     {
@@ -68,8 +68,8 @@ impl<'a> StackCarrier<'a> {
 }
 
 impl<'a, 'p> Picker<'a, 'p> {
-    // A carrier in which nothing waits, with room for as many messages as there are cells; it has handed out none, and used
-    // up none of the picks.
+    /// A carrier in which nothing waits, with room for as many messages as there are cells; it has handed out none, and used
+    /// up none of the picks.
     pub fn new(cells: &'a mut [Message], picks: &'p [u16]) -> Picker<'a, 'p>
         ensures carried { carried_by picker_messages result ≡ new_carrier (length cells.old) }
         ensures picks { picks_left (container result) ≡ picks.now }

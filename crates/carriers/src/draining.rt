@@ -3,7 +3,7 @@ ghost use Rattle.std.specs.Prelude.{◌≡◌, ◌+◌, ◌%◌, ◌^◌, [], le
 
 use crate::carrier::Carrier;
 
-// Takes messages until none waits, and answers how many came, modulo 2^32.
+/// Takes messages until none waits, and answers how many came, modulo 2^32.
 pub fn drain<C: Carrier>(carrier: &mut C) -> u32
     ensures value { result ≡ length (C.Carrier.carried carrier.old).waiting % 2 ^ 32 }
     ensures waiting { (C.Carrier.carried carrier.new).waiting ≡ [] }

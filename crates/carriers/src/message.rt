@@ -2,7 +2,7 @@
 ghost use Rattle.std.specs.Prelude.{◌≡◌};
 ghost use Rattle.carriers.specs.Messages.{receiver};
 
-// The four things that a message can say.
+/// The four things that a message can say.
 #[derive(Clone, Copy, Drop, PartialEq, Eq, Debug)]
 pub enum Kind {
     Notify,
@@ -11,14 +11,14 @@ pub enum Kind {
     Ack,
 }
 
-// The wait (v, u): the job v, the waiter, waits for the job u, its target.
+/// The wait (v, u): the job v, the waiter, waits for the job u, its target.
 #[derive(Clone, Copy, Drop, PartialEq, Eq, Debug)]
 pub struct Wait {
     pub waiter: u8,
     pub target: u8,
 }
 
-// A message says one thing about one wait. The wait comes first, so that its two bytes lie where they are read at once.
+/// A message says one thing about one wait. The wait comes first, so that its two bytes lie where they are read at once.
 #[derive(Clone, Copy, Drop, PartialEq, Eq, Debug)]
 pub struct Message {
     pub wait: Wait,

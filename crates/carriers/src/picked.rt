@@ -7,7 +7,7 @@ ghost use Rattle.carriers.specs.Picks.{picked_place, same_picks, gives_picked, p
 use crate::message::Message;
 use containers::{Container, Full, Stack};
 
-// The messages, the oldest first, and the picks that are not used up yet.
+/// The messages, the oldest first, and the picks that are not used up yet.
 #[derive(Drop)]
 pub struct Picked<'a, 'p> {
     messages: Stack<'a, Message>,
@@ -15,7 +15,7 @@ pub struct Picked<'a, 'p> {
 }
 
 impl<'a, 'p> Picked<'a, 'p> {
-    // Room for as many messages as there are cells, none of which is taken, and all the picks.
+    /// Room for as many messages as there are cells, none of which is taken, and all the picks.
     pub fn new(cells: &'a mut [Message], picks: &'p [u16]) -> Picked<'a, 'p>
         ensures messages { picker_messages result ≡ vacant (length cells.old) }
         ensures picks { picks_left result ≡ picks.now }

@@ -7,37 +7,37 @@ ghost use Rattle.chart.specs.Check.{row_right, first_wrong_row};
 use rows::{places_fit, row_fits};
 use tables::JOBS_MAX;
 
-// How many bytes a job has: its need, its number of targets, and sixteen target bytes.
+/// How many bytes a job has: its need, its number of targets, and sixteen target bytes.
 pub const ROW_BYTES: usize = 18;
 
-// The bytes of a job.
+/// The bytes of a job.
 pub type RowBytes = [u8; ROW_BYTES];
 
-// How many bytes a chart has at most: those of 256 jobs.
+/// How many bytes a chart has at most: those of 256 jobs.
 pub const CHART_MAX: usize = ROW_BYTES * JOBS_MAX;
 
-// Where the parts of a job's bytes begin.
+/// Where the parts of a job's bytes begin.
 pub const NEED: usize = 0;
 
 pub const COUNT: usize = 1;
 
 pub const TARGETS: usize = 2;
 
-// The need that a job's bytes say.
+/// The need that a job's bytes say.
 pub fn need_in(row: &RowBytes) -> u8
     ensures { result ≡ need_byte row.now }
 {
     row[NEED]
 }
 
-// The number of targets that a job's bytes say.
+/// The number of targets that a job's bytes say.
 pub fn count_in(row: &RowBytes) -> usize
     ensures { result ≡ count_byte row.now }
 {
     row[COUNT] as usize
 }
 
-// The target bytes in use.
+/// The target bytes in use.
 pub fn targets_in(row: &RowBytes) -> &[u8]
     requires { count_byte row.now ≤ targets_max }
     ensures { result.now ≡ (row_of row.now).targets }
@@ -60,7 +60,7 @@ fn is_right(jobs: usize, job: usize, row: &RowBytes) -> bool
         && row_fits(jobs, job, need_in(row), targets_in(row))
 }
 
-// The first job whose bytes are not right.
+/// The first job whose bytes are not right.
 pub fn first_wrong_row(rows: &[RowBytes]) -> Option<usize>
     ensures { result ≡ first_wrong_row rows.now }
 {

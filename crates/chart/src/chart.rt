@@ -9,7 +9,7 @@ ghost use Rattle.chart.specs.Check.{row_right};
 
 use crate::bytes::RowBytes;
 
-// The rows of the jobs, in lent bytes.
+/// The rows of the jobs, in lent bytes.
 #[derive(Clone, Copy)]
 pub struct Chart<'a> {
     rows: &'a [RowBytes],

@@ -1,7 +1,7 @@
 // Why bytes are no chart.
 mod tells;
 
-// The length, or the row of a job.
+/// The length, or the row of a job.
 #[derive(Clone, Copy, Debug, PartialEq, Eq)]
 pub enum ChartFault {
     WrongLength,

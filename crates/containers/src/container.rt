@@ -4,11 +4,11 @@ ghost use Rattle.std.specs.List.Sorted.{IsPermutation};
 ghost use Rattle.containers.specs.Held.{Held, has_room, with_last};
 ghost use Rattle.containers.specs.Taken.{TookInto};
 
-// The refusal of a put: as many records are held as there is room for.
+/// The refusal of a put: as many records are held as there is room for.
 #[derive(Clone, Copy, Drop, PartialEq, Eq, Debug)]
 pub struct Full;
 
-// Records that are put, and come back one by one.
+/// Records that are put, and come back one by one.
 pub trait Container<T: Copy> {
     // The records that it holds, in the order in which they were put, and how many it can hold.
     ghost held: { Self → Held T };

@@ -7,8 +7,8 @@ ghost use Rattle.containers.specs.Orders.{gives_oldest, first_loses_none};
 use crate::container::{Container, Full};
 use std::marker::Model;
 
-// The cells are a ring: the oldest record is in cell `head`, the `len` records follow it round the end of the cells, and the next one
-// goes into cell `tail`. The cells are lent, since there is no heap.
+/// The cells are a ring: the oldest record is in cell `head`, the `len` records follow it round the end of the cells, and the next one
+/// goes into cell `tail`. The cells are lent, since there is no heap.
 #[derive(Drop)]
 pub struct Queue<'a, T> {
     cells: &'a mut [T],
@@ -30,7 +30,7 @@ impl<'a, T> Model for Queue<'a, T> {
 }
 
 impl<'a, T: Copy> Queue<'a, T> {
-    // An empty queue over the cells, which has room for as many records as there are cells.
+    /// An empty queue over the cells, which has room for as many records as there are cells.
     pub fn new(cells: &'a mut [T]) -> Queue<'a, T>
         ensures { result ≡ vacant (length cells.old) }
     {

@@ -8,8 +8,8 @@ ghost use Rattle.containers.specs.Orders.{gives_newest, last_loses_none};
 use crate::container::{Container, Full};
 use std::marker::Model;
 
-// The records are the first `len` cells, the newest last. The cells are lent, since there is no heap; so their number in use
-// lies beside them.
+/// The records are the first `len` cells, the newest last. The cells are lent, since there is no heap; so their number in use
+/// lies beside them.
 #[derive(Drop)]
 pub struct Stack<'a, T> {
     cells: &'a mut [T],
@@ -28,7 +28,7 @@ impl<'a, T> Model for Stack<'a, T> {
 }
 
 impl<'a, T: Copy> Stack<'a, T> {
-    // An empty stack over the cells, which has room for as many records as there are cells.
+    /// An empty stack over the cells, which has room for as many records as there are cells.
     pub fn new(cells: &'a mut [T]) -> Stack<'a, T>
         ensures { result ≡ vacant (length cells.old) }
     {
@@ -49,7 +49,7 @@ impl<'a, T: Copy> Stack<'a, T> {
         true
     }
 
-    // Lets go of every record.
+    /// Lets go of every record.
     pub fn clear(&mut self)
         ensures { self.new ≡ holding self.old [] }
     {

@@ -5,7 +5,7 @@ use Rattle.std.specs.Result.{result_err}
 use Rattle.detection.specs.declared.fault.DetectionFault.{DetectionFault}
 use Rattle.detection.specs.declared.fault.DetectionFault.TheVariants.{NoSuchJob, TooFewRecords, MessagesWait, CarrierTooSmall}
 
--- None of them carries a value.
+-- 1, no such job; 10, too few records; 11, messages wait; 12, the carrier is too small. None carries a value.
 abbrev pub number : DetectionFault → ℕ
 number NoSuchJob = 1
 number TooFewRecords = 10

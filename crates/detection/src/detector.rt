@@ -13,11 +13,11 @@ use carriers::Carrier;
 use exchange::RunRecord;
 use tables::{INDEX_WORDS, Indexed, Table, TwoWayTable};
 
-// How many messages a carrier must have room for, for each wait.
+/// How many messages a carrier must have room for, for each wait.
 pub const CAPACITY_PER_WAIT: usize = 2;
 
-// Whether the initiator is stuck, told by a run of the exchange: no list of lawful grants makes it active. The records and the
-// carrier are lent; where the detection is stopped, they stay as they are.
+/// Whether the initiator is stuck, told by a run of the exchange: no list of lawful grants makes it active. The records and the
+/// carrier are lent; where the detection is stopped, they stay as they are.
 pub fn detect<T: TwoWayTable, C: Carrier>(
     table: &T,
     initiator: usize,

@@ -10,7 +10,7 @@ use crate::lawful::LawfulTable;
 use carriers::{Carrier, Kind, Message, Wait};
 use tables::{Table, TwoWayTable};
 
-// Puts a message for which there is room. Its kind and its wait come apart, as each caller has them.
+/// Puts a message for which there is room. Its kind and its wait come apart, as each caller has them.
 pub fn send<C: Carrier>(carrier: &mut C, kind: Kind, wait: Wait)
     requires { RoomFor (C.Carrier.carried carrier.old) (message kind wait ∷ []) }
     ensures { Sent (C.Carrier.carried carrier.old) (C.Carrier.carried carrier.new) (message kind wait ∷ []) }
@@ -18,7 +18,7 @@ pub fn send<C: Carrier>(carrier: &mut C, kind: Kind, wait: Wait)
     carrier.put(Message { kind, wait }).unwrap();
 }
 
-// Puts a message on a wait that a record names; where it names none, no message.
+/// Puts a message on a wait that a record names; where it names none, no message.
 pub fn send_on<C: Carrier>(carrier: &mut C, kind: Kind, wait: Option<Wait>)
     requires { RoomFor (C.Carrier.carried carrier.old) (put_on kind wait) }
     ensures { Sent (C.Carrier.carried carrier.old) (C.Carrier.carried carrier.new) (put_on kind wait) }
@@ -28,7 +28,7 @@ pub fn send_on<C: Carrier>(carrier: &mut C, kind: Kind, wait: Option<Wait>)
     }
 }
 
-// Puts NOTIFY on each wait of a job, and tells how many there are.
+/// Puts NOTIFY on each wait of a job, and tells how many there are.
 pub fn send_notifies<T: TwoWayTable, C: Carrier>(
     table: &LawfulTable<T>,
     job: u8,
@@ -51,8 +51,8 @@ pub fn send_notifies<T: TwoWayTable, C: Carrier>(
     count
 }
 
-// Puts GRANT on each wait for a job, and tells how many there are. One function for this and the one above would be no plainer: its
-// contract would speak of what any iterator yields, in place of targets and waiters.
+/// Puts GRANT on each wait for a job, and tells how many there are. One function for this and the one above would be no plainer: its
+/// contract would speak of what any iterator yields, in place of targets and waiters.
 pub fn send_grants<T: TwoWayTable, C: Carrier>(
     table: &LawfulTable<T>,
     job: u8,

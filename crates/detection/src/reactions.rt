@@ -28,8 +28,8 @@ fn release<T: TwoWayTable, C: Carrier>(
     own.acks_due = send_grants(table, job, carrier);
 }
 
-// A job spreads: it becomes notified, and puts NOTIFY on each of its waits; one that needs none by the table then lets go. Inlined, so that
-// a queue's ends stay in registers from delivery to delivery.
+/// A job spreads: it becomes notified, and puts NOTIFY on each of its waits; one that needs none by the table then lets go. Inlined, so that
+/// a queue's ends stay in registers from delivery to delivery.
 #[inline(always)]
 pub fn spread<T: TwoWayTable, C: Carrier>(
     table: &LawfulTable<T>,
@@ -108,7 +108,7 @@ fn react<T: TwoWayTable, C: Carrier>(
     }
 }
 
-// Delivers a message: its receiver reacts, by its record in the list.
+/// Delivers a message: its receiver reacts, by its record in the list.
 pub fn deliver<T: TwoWayTable, C: Carrier>(
     table: &LawfulTable<T>,
     message: Message,

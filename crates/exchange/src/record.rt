@@ -4,8 +4,8 @@ ghost use Rattle.exchange.specs.Records.{blank as unmarked};
 
 use carriers::Wait;
 
-// `notified_by` and `freed_by` are the waits on which the first NOTIFY and the freeing GRANT came. The rules fix the seven entries,
-// of which the first two are yes or no.
+/// `notified_by` and `freed_by` are the waits on which the first NOTIFY and the freeing GRANT came. The rules fix the seven entries,
+/// of which the first two are yes or no.
 #[derive(Clone, Copy, Drop, PartialEq, Eq, Debug)]
 pub struct RunRecord {
     pub notified: bool,
@@ -18,7 +18,7 @@ pub struct RunRecord {
 }
 
 impl RunRecord {
-    // The record of a job that no message has reached.
+    /// The record of a job that no message has reached.
     pub fn blank() -> RunRecord
         ensures { result ≡ unmarked }
     {

@@ -5,7 +5,7 @@ use Rattle.std.specs.Result.{result_err}
 use Rattle.reduction.specs.declared.fault.ReductionFault.{ReductionFault}
 use Rattle.reduction.specs.declared.fault.ReductionFault.TheVariants.{TooShort}
 
--- Too few bytes for the jobs.
+-- 10: there are fewer bytes than jobs. It carries no value.
 abbrev pub number : ReductionFault → ℕ
 number TooShort = 10
 

@@ -1,6 +1,6 @@
 // Bytes that mark the loosened jobs.
 
-// The byte of a loosened job, and that of any other; the rules fix both, so that they are no enum.
+/// The byte of a loosened job, and that of any other; the rules fix both, so that they are no enum.
 pub const LOOSE: u8 = 0;
 
 pub const HELD: u8 = 1;

@@ -2,13 +2,13 @@
 use crate::names::Job;
 use book::{Call, Edit, Ending, Stub};
 
-// The mark of the book's tickets.
+/// The mark of the book's tickets.
 pub const MARK: u16 = 7;
 
-// How many calls the day has.
+/// How many calls the day has.
 pub const STEPS: usize = 30;
 
-// A call, what is said after it, and whether the jobs that wait are listed then.
+/// A call, what is said after it, and whether the jobs that wait are listed then.
 #[derive(Clone, Copy)]
 pub struct Step<'d> {
     pub call: Call<'d>,
@@ -92,9 +92,9 @@ impl<'d> Step<'d> {
     }
 }
 
-// A fillet, a preview and a sheet wait for what they are made of, and the fillet can wait no second time; then one fails on a drawer edge, in a group of its own; a
-// handle is kept; three views wait in a circle, in a group that is cancelled, since the sheet is stuck in it; faces, meshes and
-// views are done; and two scripts are run.
+/// A fillet, a preview and a sheet wait for what they are made of, and the fillet can wait no second time; then one fails on a drawer edge, in a group of its own; a
+/// handle is kept; three views wait in a circle, in a group that is cancelled, since the sheet is stuck in it; faces, meshes and
+/// views are done; and two scripts are run.
 pub fn day() -> [Step<'static>; STEPS] {
     [
         plain(Call::Open).said("it is the designer's own"),

@@ -1,9 +1,9 @@
 // The jobs of the day, by the names that a designer knows.
 
-// How many jobs there are.
+/// How many jobs there are.
 pub const JOBS: usize = 16;
 
-// A job's number in the book is its place here.
+/// A job's number in the book is its place here.
 #[derive(Clone, Copy)]
 pub enum Job {
     LeftFace,
@@ -25,7 +25,7 @@ pub enum Job {
 }
 
 impl Job {
-    // All of them, by number. Written out, since a macro of the repository may write impls alone.
+    /// All of them, by number. Written out, since a macro of the repository may write impls alone.
     pub const ALL: [Job; JOBS] = [
         Job::LeftFace,
         Job::RightFace,
@@ -67,7 +67,7 @@ impl Job {
     }
 }
 
-// The name of the job with a number.
+/// The name of the job with a number.
 pub fn name_of(number: usize) -> &'static str {
     match Job::ALL.get(number) {
         Some(job) => job.name(),

@@ -11,7 +11,7 @@ fn row_of(seen: &Snapshot, job: usize) -> PlainRow {
     seen.rows().get(job).copied().unwrap_or(PlainRow::idle())
 }
 
-// What a job needs, and for what it waits.
+/// What a job needs, and for what it waits.
 pub fn row(rt: &HostRuntime, seen: &Snapshot, job: usize) -> io::Result<()> {
     let row = row_of(seen, job);
     let need = row.need;
@@ -27,12 +27,12 @@ pub fn row(rt: &HostRuntime, seen: &Snapshot, job: usize) -> io::Result<()> {
     Ok(())
 }
 
-// How it is said that a job is stuck, or that it is not.
+/// How it is said that a job is stuck, or that it is not.
 pub fn word(stuck: bool) -> &'static str {
     if stuck { "stuck" } else { "only slow" }
 }
 
-// The jobs that wait, each with the word of the reduction, which reads the rows as a chart.
+/// The jobs that wait, each with the word of the reduction, which reads the rows as a chart.
 pub fn waiting(rt: &HostRuntime, seen: &Snapshot) -> Result<(), Trouble> {
     let mut bytes = [0; CHART_MAX];
     let length = write_chart(seen, &mut bytes);

@@ -112,7 +112,7 @@ fn answered(
     Ok(told?)
 }
 
-// A call of the day, with what is to be said after it.
+/// A call of the day, with what is to be said after it.
 pub fn call(
     rt: &HostRuntime,
     step: &Step<'_>,
@@ -131,14 +131,14 @@ pub fn call(
     Ok(())
 }
 
-// What is seen before the first call.
+/// What is seen before the first call.
 pub fn beginning(rt: &HostRuntime, first: &Snapshot) -> io::Result<()> {
     let jobs = first.rows().len();
     let active = first.rows().iter().filter(|row| row.need == 0).count();
     println!(rt; "a day of regeneration: {jobs} jobs, {active} of them active")
 }
 
-// The detections of the day alone, in one line: the word for each job that was asked about, and the deliveries.
+/// The detections of the day alone, in one line: the word for each job that was asked about, and the deliveries.
 pub fn detections(rt: &HostRuntime, day: &[Step<'_>], moments: &[Moment]) -> io::Result<()> {
     let mut first = true;
     for (step, moment) in day.iter().zip(moments) {

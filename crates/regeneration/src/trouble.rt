@@ -5,7 +5,7 @@ use reduction::ReductionFault;
 use std::io;
 use thiserror::Error;
 
-// Nothing can be printed, the day has more calls than there are moments for, or the reduction or the detection refuses a call.
+/// Nothing can be printed, the day has more calls than there are moments for, or the reduction or the detection refuses a call.
 #[derive(Debug, Drop, Error)]
 pub enum Trouble {
     #[error("a line can't be printed")]

@@ -11,28 +11,28 @@ use crate::plain::TARGETS_MAX;
 use std::simd::cmp::SimdPartialEq;
 use std::simd::u8x16;
 
-// Whether a row may have this need and so many targets.
+/// Whether a row may have this need and so many targets.
 pub fn counts_fit(need: u8, count: usize) -> bool
     ensures { result ≡ counts_fit need count }
 {
     count <= TARGETS_MAX && need as usize <= count && (need > 0 || count == 0)
 }
 
-// Whether each target is above the one before it.
+/// Whether each target is above the one before it.
 pub fn rises(targets: &[u8]) -> bool
     ensures { result ≡ rising 0 targets.now }
 {
     targets.is_sorted_by(|before, after| before < after)
 }
 
-// The place of a job among the targets.
+/// The place of a job among the targets.
 pub fn place_of(targets: &[u8], job: usize) -> Option<usize>
     ensures { Placed job targets.now result }
 {
     targets.iter().position(|target| *target as usize == job)
 }
 
-// Whether a job stands at some of the places, in use or not. All are compared at once, without an early exit.
+/// Whether a job stands at some of the places, in use or not. All are compared at once, without an early exit.
 pub fn stands_somewhere(places: &[u8; TARGETS_MAX], job: u8) -> bool
     ensures { result ≡ among job places.now }
 {
@@ -42,7 +42,7 @@ pub fn stands_somewhere(places: &[u8; TARGETS_MAX], job: u8) -> bool
         != 0
 }
 
-// The place of the first target that is not below `jobs`, is the job itself, or is not above the one before it.
+/// The place of the first target that is not below `jobs`, is the job itself, or is not above the one before it.
 pub fn first_wrong(jobs: usize, job: usize, targets: &[u8]) -> Option<usize>
     ensures { result ≡ first_wrong jobs job 0 0 targets.now }
 {
@@ -79,7 +79,7 @@ pub fn places_fit(count: usize, places: &[u8]) -> bool
     places.len() == TARGETS_MAX && count <= TARGETS_MAX && all_zero(&places[count..])
 }
 
-// The targets at the first places, and 0 at the others.
+/// The targets at the first places, and 0 at the others.
 pub fn padded(targets: &[u8]) -> [u8; TARGETS_MAX]
     requires { length targets.now ≤ targets_max }
     ensures { result ≡ places_of targets.now }
@@ -89,7 +89,7 @@ pub fn padded(targets: &[u8]) -> [u8; TARGETS_MAX]
     places
 }
 
-// The targets but the one at a place, at the first places, and 0 at the others.
+/// The targets but the one at a place, at the first places, and 0 at the others.
 pub fn without_place(targets: &[u8], place: usize) -> [u8; TARGETS_MAX]
     requires { (length targets.now ≤ targets_max) × (place < length targets.now) }
     ensures { result ≡ places_of (remove targets.now place) }

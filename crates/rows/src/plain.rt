@@ -26,11 +26,11 @@ pub struct Row {
     ghost lawful: { sound plain.need plain.count plain.targets ≡ true },
 }
 
-// A stored row that breaks the law is no row.
+/// A stored row that breaks the law is no row.
 #[derive(Clone, Copy, Debug, PartialEq, Eq)]
 pub struct LawBroken;
 
-// Why a request makes no row: its counts, or the target at a place.
+/// Why a request makes no row: its counts, or the target at a place.
 #[derive(Clone, Copy, Debug, PartialEq, Eq)]
 pub enum RowFault {
     WrongCounts,

@@ -1,7 +1,7 @@
 // What lawful grants lead to.
 ghost use Rattle.tables.specs.Grants.{LoosenedCanBeFreed};
 
-// The loosened jobs are those that lawful grants can make active.
+/// The loosened jobs are those that lawful grants can make active.
 pub fn loosened_jobs_can_be_freed()
     ensures { LoosenedCanBeFreed }
 {}

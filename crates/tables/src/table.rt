@@ -7,13 +7,13 @@ ghost use Rattle.tables.specs.Walks.{targets_left, waiters_left};
 use crate::walks::{TargetsOf, WaitersOf};
 use rows::TARGETS_MAX;
 
-// How many jobs a table has at most.
+/// How many jobs a table has at most.
 pub const JOBS_MAX: usize = 256;
 
-// How many waits a table has at most.
+/// How many waits a table has at most.
 pub const WAITS_MAX: usize = JOBS_MAX * TARGETS_MAX;
 
-// Jobs, and what each waits for. Beyond the last job every row is idle, and past the last place there is none.
+/// Jobs, and what each waits for. Beyond the last job every row is idle, and past the last place there is none.
 pub trait Table {
     ghost rows: { Self → List Waiting };
 
@@ -72,7 +72,7 @@ pub trait Table {
     }
 }
 
-// A table that is read against the waits too.
+/// A table that is read against the waits too.
 pub trait TwoWayTable: Table {
     // The first job not below `from` that waits for a job. Going on from each answer, one pass finds every waiter.
     fn next_waiter(&self, job: usize, from: usize) -> Option<usize>

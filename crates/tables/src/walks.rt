@@ -5,7 +5,7 @@ ghost use Rattle.tables.specs.Walks.{targets_left, waiters_left};
 use crate::table::{Table, TwoWayTable};
 use std::ops::Range;
 
-// The targets of a job at the places that are left.
+/// The targets of a job at the places that are left.
 #[derive(Drop)]
 pub struct TargetsOf<'a, T> {
     pub(crate) table: &'a T,
@@ -26,7 +26,7 @@ impl<'a, T: Table> Iterator for TargetsOf<'a, T> {
     }
 }
 
-// The jobs not below `from` that wait for a job.
+/// The jobs not below `from` that wait for a job.
 #[derive(Drop)]
 pub struct WaitersOf<'a, T> {
     pub(crate) table: &'a T,

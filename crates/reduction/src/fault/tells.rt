@@ -5,7 +5,7 @@ ghost use Rattle.reduction.specs.Faults.{number};
 use crate::fault::ReductionFault;
 
 impl ReductionFault {
-    // The refusal's number, which the rules fix.
+    /// The refusal's number, which the rules fix.
     pub fn number(&self) -> u8
         ensures { result ≡ number self.now }
     {

@@ -7,7 +7,7 @@ use crate::parts::{counts_fit, first_wrong, padded, place_of, without_place};
 use crate::plain::{PlainRow, Row, RowFault};
 
 impl Row {
-    // The row of a request by `job`, one of `jobs` jobs.
+    /// The row of a request by `job`, one of `jobs` jobs.
     pub fn request(jobs: usize, job: usize, need: u8, targets: &[u8]) -> Result<Row, RowFault>
         ensures { seen result ≡ requested jobs job need targets.now }
     {
@@ -27,8 +27,8 @@ impl Row {
         })
     }
 
-    // The row after a grant: the wait for the granter goes and the need falls by one, and at none the other waits go too.
-    // None where the row does not wait for the granter.
+    /// The row after a grant: the wait for the granter goes and the need falls by one, and at none the other waits go too.
+    /// None where the row does not wait for the granter.
     pub fn granted(&self, granter: usize) -> Option<Row>
         ensures { seen_some result ≡ granted_by granter (waiting_of self.now) }
     {

@@ -7,7 +7,7 @@ use crate::parts::stands_somewhere;
 use crate::plain::{PlainRow, Row};
 
 impl PlainRow {
-    // The targets in use. A count above 16, which no book stores, puts all of them in use.
+    /// The targets in use. A count above 16, which no book stores, puts all of them in use.
     pub fn in_use(&self) -> &[u8]
         ensures { result.now ≡ (waiting self.now).targets }
     {
@@ -16,7 +16,7 @@ impl PlainRow {
             .unwrap_or(&self.targets)
     }
 
-    // Whether the row waits for a job.
+    /// Whether the row waits for a job.
     pub fn waits_for(&self, job: u8) -> bool
         ensures { result ≡ among job (waiting self.now).targets }
     {
@@ -33,7 +33,7 @@ impl Row {
         self.plain.in_use()
     }
 
-    // How many of its targets the job still needs; an active job needs none.
+    /// How many of its targets the job still needs; an active job needs none.
     pub fn need(&self) -> u8
         ensures { result ≡ (waiting_of self.now).need }
     {
