@@ -1,6 +1,8 @@
-// The reduction over books and charts, on tables of cases.
+// The reduction over books and charts, and the index of a book, on tables of cases.
 #![tactic(auto)]
 
+#[cfg(test)]
+mod indexes;
 #[cfg(test)]
 mod reductions;
 #[cfg(test)]

@@ -1,0 +1,27 @@
+// A book beside its index: waiters in several words, and none where none waits.
+use book::{Book, Old, PlainRow};
+use tables::{INDEX_WORDS, Indexed, Table, TwoWayTable};
+
+// The words are full of old marks, which have to go.
+#[test]
+fn index_finds_waiters_in_every_word(rt: HostRuntime) {
+    let mut memory = [Old {
+        job: 0,
+        row: PlainRow::idle(),
+    }; 1];
+    let mut book = Book::new(256, 7, &mut memory);
+    for job in [3, 63, 64, 130, 255] {
+        assert!(rt; book.request(job, 1, &[0, 2]).is_ok());
+    }
+    let mut words = [u64::MAX; INDEX_WORDS];
+    let indexed = Indexed::new(&book, &mut words);
+    assert_eq!(rt; indexed.wait_count(), 10);
+    assert!(rt; indexed.waiters(0).eq([3, 63, 64, 130, 255]));
+    assert!(rt; indexed.waiters(2).eq(book.waiters(2)));
+    assert!(rt; indexed.waiters(1).eq([]) && indexed.waiters(256).eq([]));
+    assert_eq!(rt; indexed.next_waiter(0, 64), Some(64));
+    assert_eq!(rt; indexed.next_waiter(0, 65), Some(130));
+    assert_eq!(rt; indexed.next_waiter(0, 256), None);
+    assert_eq!(rt; indexed.waiter(2, 1), Some(63));
+    assert_eq!(rt; indexed.need(255), 1);
+}
