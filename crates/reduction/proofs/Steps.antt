@@ -14,7 +14,7 @@ use Rattle.tables.proofs.Laws.{lawful_at, who_waits_is_a_job}
 use Rattle.tables.proofs.Waiters.{waiters_rise, waiters_are_who_waits, among_rising_is_not_below}
 use Rattle.reduction.specs.Marks.{loose, held, is_loose}
 use Rattle.tables.specs.Tables.{jobs_max, lawful, waiters}
-use Rattle.reduction.specs.Work.{Work, loose_count, looked_at, steps_left, NoneTwice, SoundMarks, Lacks, Settled, AtHand, CanBeLoosened, with_loose, one_less, with_target, CanHaveTarget, Decided}
+use Rattle.reduction.specs.Work.{Work, loose_count, looked_at, steps_left, NoneTwice, SoundMarks, Lacks, Settled, AtHand, CanBeLoosened, with_loose, one_less, lowered, CanBeLowered, Decided}
 
 -- ---- counts
 
@@ -353,8 +353,8 @@ module _ (w₀ : Work) (job x : ℕ) (left rest : List ℕ) (w : Work) (p : Lowe
           ));
     }
 
-  pub can_have_target : CanHaveTarget w x
-  can_have_target = record { is_job = x_is_a_job; lacks = λ m. (x_lacks m).0; last = x_can_be_loosened }
+  pub can_be_lowered : CanBeLowered w x
+  can_be_lowered = record { is_job = x_is_a_job; lacks = λ m. (x_lacks m).0; last = x_can_be_loosened }
 
   -- The rest, where marks and queue are as they were.
   lower_on : (lacking : List ℕ) → length lacking ≡ length w.lacking
@@ -437,7 +437,7 @@ module _ (w₀ : Work) (job x : ℕ) (left rest : List ℕ) (w : Work) (p : Lowe
             go true = done_same w.marks (job ∷ w.queue) x t (omega (arith, p.base.len, x_is_a_job)) m
             go false = done_same w.marks w.queue x t (omega (arith, p.base.len, x_is_a_job)) m
 
-  pub lower_next : Lowering w₀ job rest (with_target w x)
+  pub lower_next : Lowering w₀ job rest (lowered w x)
   lower_next = elim (cases_Bool (is_loose w.marks x)) [
     | inl m ↦ rw m (lower_marked m)
     | inr m ↦ elim (cases_eq (get_or w.lacking x 0) 1) [

@@ -76,13 +76,13 @@ abbrev pub one_less : Work → ℕ → Work
 one_less w job = record w { lacking = slice_set w.lacking job (slice_index w.lacking job - 1) }
 
 -- A target of a job is done: unless it is marked, it lacks one less, and where it then lacks none it is marked.
-abbrev pub with_target : Work → ℕ → Work
-with_target w job =
+abbrev pub lowered : Work → ℕ → Work
+lowered w job =
     cond (is_loose w.marks job) w
     (cond (slice_index w.lacking job == 1) (with_loose (one_less w job) job) (one_less w job))
 
--- A target of a job can be done: where the job is not marked, it lacks some, and can be marked if that is the last.
-pub record CanHaveTarget (w : Work) (job : ℕ) : Type 0 where
+-- A job can be lowered: where it is not marked, it lacks some, and can be marked if that is the last.
+pub record CanBeLowered (w : Work) (job : ℕ) : Type 0 where
   pub is_job : job < length w.rows
   pub lacks : is_loose w.marks job ≡ false → 0 < slice_index w.lacking job
   pub last : is_loose w.marks job ≡ false → slice_index w.lacking job ≡ 1 → CanBeLoosened w job

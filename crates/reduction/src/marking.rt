@@ -2,7 +2,7 @@
 ghost use Rattle.std.specs.Prelude.{◌≡◌};
 ghost use Rattle.containers.specs.Held.{vacant};
 ghost use Rattle.tables.specs.Tables.{jobs_max};
-ghost use Rattle.reduction.specs.Work.{Settled, AtHand, CanBeLoosened, CanHaveTarget, steps_left, with_loose, with_target};
+ghost use Rattle.reduction.specs.Work.{Settled, AtHand, CanBeLoosened, CanBeLowered, steps_left, with_loose, lowered};
 
 use crate::marks::{HELD, LOOSE};
 use containers::{Container, Queue};
@@ -71,8 +71,8 @@ impl<'a, 'q, T: TwoWayTable> Marking<'a, 'q, T> {
 
     // A target of a job is done: the job lacks one less, and where it then lacks none, it is marked and queued.
     fn lower(&mut self, job: usize)
-        requires { CanHaveTarget self.old job }
-        ensures { self.new ≡ with_target self.old job }
+        requires { CanBeLowered self.old job }
+        ensures { self.new ≡ lowered self.old job }
     {
         if self.marks[job] == LOOSE {
             return;

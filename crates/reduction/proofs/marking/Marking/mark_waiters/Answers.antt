@@ -2,7 +2,7 @@
 use Rattle.std.proofs.Common.{ℕ, List, sym, ap, subst, ◌∙◌}
 use Rattle.tables.specs.Tables.{waiters}
 use Rattle.reduction.specs.Work.{SoundMarks}
-use Rattle.reduction.proofs.Steps.{Lowering, lower_start, can_have_target, lower_next}
+use Rattle.reduction.proofs.Steps.{Lowering, lower_start, can_be_lowered, lower_next}
 use Rattle.reduction.proofs.marking.Marking.mark_waiters.Goals as goal
 
 pub loop-waiter-init : goal.loop-waiter-init
@@ -14,7 +14,7 @@ loop-waiter-init g c =
 
 pub lower-requires : goal.lower-requires
 lower-requires g c =
-    can_have_target c.args.self.now c.args.job c.in-Some.waiter _ _ c.loop-waiter.self c.loop-waiter.invariant c.in-Some.ensures.steps
+    can_be_lowered c.args.self.now c.args.job c.in-Some.waiter _ _ c.loop-waiter.self c.loop-waiter.invariant c.in-Some.ensures.steps
 
 pub loop-waiter-preserved : goal.loop-waiter-preserved
 loop-waiter-preserved g c =
