@@ -1,10 +1,11 @@
 #!/usr/bin/env python3
-"""Runs `waits` and a plain Rust program on the same scripts, side by side: README.md."""
+"""Runs `waits` and Rust programs on the same scripts, side by side: README.md."""
 
 import argparse
 import collections
 import os
 import random
+import shutil
 import statistics
 import subprocess
 import sys
@@ -17,7 +18,17 @@ import scripts
 BENCH = Path(__file__).resolve().parent
 WAITS = BENCH.parent / "crates/waits/out/waits"
 PLAIN = BENCH / "plain/target/release"
-PROGRAMS = {"waits": WAITS, "plain": PLAIN / "plain", "indexed": PLAIN / "indexed"}
+OTHERS = ("plain", "indexed", "tuned")
+PROGRAMS = {"waits": WAITS, **{name: PLAIN / name for name in OTHERS}}
+# What the loop of reductions stands on, each after what it uses.
+REDUCTION_CRATES = (
+    "containers:",
+    "rows:",
+    "tables: rows",
+    "chart: rows tables",
+    "reduction: containers rows tables",
+    "reductions: chart reduction",
+)
 
 
 class Disagreement(Exception):
@@ -112,15 +123,15 @@ def compare(bench, seed, repetitions):
         own = {name: best[name] - base[name] for name in best}
         row = [label, str(len(script)), str(deliveries_of(seen[0]))]
         row += [f"{milliseconds(best[n])} / {milliseconds(middle[n])}" for n in PROGRAMS]
-        for other in ("plain", "indexed"):
+        for other in OTHERS:
             row.append(f"{best['waits'] / best[other]:.2f}")
-        for other in ("plain", "indexed"):
+        for other in OTHERS:
             # what is shorter than a start is lost in the noise of one
             row.append(f"{own['waits'] / own[other]:.2f}" if own[other] > base[other] else "")
         rows.append(row)
         print(f"{label}: done", file=sys.stderr)
     head = ["script", "bytes", "deliveries", *(f"{n}, ms best / median" for n in PROGRAMS)]
-    head += ["waits/plain", "waits/indexed", "waits/plain less start", "waits/indexed less start"]
+    head += [*(f"waits/{n}" for n in OTHERS), *(f"waits/{n} less start" for n in OTHERS)]
     table(head, rows)
 
 
@@ -141,10 +152,10 @@ def deliveries_a_second(bench, repetitions):
             rate = {n: done / (min(all_times) - base[n]) / 1e6 for n, all_times in times.items()}
             rows.append(
                 [str(waits), str(done), *(f"{rate[n]:.1f}" for n in PROGRAMS)]
-                + [f"{rate[other] / rate['waits']:.2f}" for other in ("plain", "indexed")]
+                + [f"{rate[other] / rate['waits']:.2f}" for other in OTHERS]
             )
         print(f"All {label}:\n")
-        table(["e", "deliveries", *(f"{n}, millions/s" for n in PROGRAMS), "waits/plain", "waits/indexed"], rows)
+        table(["e", "deliveries", *(f"{n}, millions/s" for n in PROGRAMS), *(f"waits/{n}" for n in OTHERS)], rows)
 
 
 def detections(bench, repetitions):
@@ -162,10 +173,48 @@ def detections(bench, repetitions):
             rows.append(
                 [label, "free" if free else "stuck", str(deliveries_of(seen[0]) // made)]
                 + [f"{took[n]:.2f}" for n in PROGRAMS]
-                + [f"{took['waits'] / took[other]:.2f}" for other in ("plain", "indexed")]
+                + [f"{took['waits'] / took[other]:.2f}" for other in OTHERS]
             )
-    head = ["script", "verdict", "deliveries", *(f"{n}, µs" for n in PROGRAMS), "waits/plain", "waits/indexed"]
+    head = ["script", "verdict", "deliveries", *(f"{n}, µs" for n in PROGRAMS), *(f"waits/{n}" for n in OTHERS)]
     table(head, rows)
+
+
+def built_reductions(folder):
+    """Proves and builds the program of `reductions.txt`, which is no crate of the gate, on a copy of what it stands on."""
+    (folder / "crates.txt").write_text("".join(f"{line}\n" for line in REDUCTION_CRATES))
+    for line in REDUCTION_CRATES[:-1]:
+        name = line.split(":")[0]
+        shutil.copytree(BENCH.parent / "crates" / name, folder / "crates" / name, ignore=shutil.ignore_patterns("out"))
+    crate = folder / "crates/reductions"
+    (crate / "src").mkdir(parents=True)
+    shutil.copy(BENCH / "reductions.txt", crate / "src/main.rt")
+    subprocess.run(["rt", "run"], cwd=crate, stdin=subprocess.DEVNULL, capture_output=True)
+    return crate / "out/reductions"
+
+
+def reductions(repetitions):
+    """Microseconds of a reduction in a loop in one process, less what the process takes with no round of the loop."""
+    rounds = 20_000
+    with tempfile.TemporaryDirectory() as folder:
+        programs = {"waits": built_reductions(Path(folder)), "plain": PLAIN / "reductions"}
+        rows = []
+        for label, waits, chart in scripts.charts():
+            best = {}
+            for _ in range(repetitions):
+                seen = set()
+                for name, program in programs.items():
+                    for often in (0, rounds):
+                        start = time.perf_counter()
+                        done = subprocess.run([program], input=often.to_bytes(2, "big") + chart, capture_output=True, check=True)
+                        took = time.perf_counter() - start
+                        best[name, often] = min(best.get((name, often), took), took)
+                    seen.add(done.stdout)
+                if len(seen) > 1:
+                    raise Disagreement(f"chart {chart.hex()}")
+            once = {name: (best[name, rounds] - best[name, 0]) / rounds * 1e6 for name in programs}
+            stuck = str(sum(seen.pop()))
+            rows.append([label, str(waits), stuck, *(f"{once[n]:.2f}" for n in programs), f"{once['waits'] / once['plain']:.2f}"])
+    table(["chart of 256 jobs", "waits", "stuck", *(f"{n}, µs" for n in programs), "waits/plain"], rows)
 
 
 def fuzz(bench, seed, count):
@@ -187,7 +236,7 @@ def main():
     parser.add_argument("--repetitions", type=int, default=8)
     parser.add_argument("--fuzz", type=int, default=4000, help="how many random scripts")
     parser.add_argument("--seed", type=int, default=1)
-    parser.add_argument("--only", choices=["compare", "deliveries", "detections", "fuzz"])
+    parser.add_argument("--only", choices=["compare", "deliveries", "detections", "fuzz", "reductions"])
     parser.add_argument("--waits", type=Path, help="another build of waits")
     options = parser.parse_args()
     if options.waits:
@@ -207,6 +256,8 @@ def main():
                 deliveries_a_second(bench, options.repetitions)
             if options.only in (None, "detections"):
                 detections(bench, options.repetitions)
+            if options.only in (None, "reductions"):
+                reductions(options.repetitions)
         except Disagreement as disagreement:
             sys.exit(f"the programs disagree: {disagreement}")
 

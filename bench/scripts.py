@@ -1,5 +1,7 @@
 """Scripts for the program `waits`: docs/RULES.md says what they mean."""
 
+import random
+
 SCRIPT_MAX = 8192
 JOBS = 256
 TARGETS_MAX = 16
@@ -259,3 +261,22 @@ def full_trail(rng):
     if writes % 2:
         script += request(0, 1, [1])
     return script + rng.choice([b"", b"C", b"K", b"OKD\0", b"KD\0"]) + detect(0)
+
+
+def chart(rows):
+    """The bytes of a chart, of needs and targets."""
+    return b"".join(bytes([need, len(targets), *sorted(targets)]).ljust(18, b"\0") for need, targets in rows)
+
+
+def charts():
+    """Charts of 256 jobs, to be reduced: all stuck in a ring, all free but for job 0 active, and random ones."""
+    rng = random.Random(3)
+    for count in (1, 16):
+        ring = [[(job + step) % JOBS for step in range(1, count + 1)] for job in range(JOBS)]
+        back = [[(job - step) % JOBS for step in range(1, count + 1)] for job in range(1, JOBS)]
+        some = [rng.sample([t for t in range(JOBS) if t != job], count) for job in range(JOBS)]
+        need = (count + 1) // 2
+        yield f"ring, {need} of {count}", JOBS * count, chart((need, targets) for targets in ring)
+        yield f"free, 1 of {count}", (JOBS - 1) * count, chart([(0, []), *((1, targets) for targets in back)])
+        rows = [(need, targets) if job % 16 else (0, []) for job, targets in enumerate(some)]
+        yield f"random, {need} of {count}", sum(len(targets) for _, targets in rows), chart(rows)

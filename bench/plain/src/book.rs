@@ -2,6 +2,8 @@
 
 use crate::fault::BookFault;
 use crate::row::Row;
+use crate::script::Calls;
+use crate::{JOBS, TRAIL};
 
 pub const DEPTH_MAX: usize = 8;
 
@@ -19,39 +21,12 @@ pub struct Book {
 }
 
 impl Book {
-    pub fn new(jobs: usize, trail_max: usize) -> Book {
-        Book {
-            rows: vec![Row::IDLE; jobs],
-            trail: Vec::with_capacity(trail_max),
-            trail_max,
-            starts: Vec::with_capacity(DEPTH_MAX),
-        }
-    }
-
     pub fn rows(&self) -> &[Row] {
         &self.rows
     }
 
     fn row(&self, job: u8) -> Result<&Row, BookFault> {
         self.rows.get(usize::from(job)).ok_or(BookFault::NoSuchJob)
-    }
-
-    pub fn request(&mut self, job: u8, need: u8, targets: &[u8]) -> Result<(), BookFault> {
-        if !self.row(job)?.is_active() {
-            return Err(BookFault::Blocked);
-        }
-        let row = Row::request(self.rows.len(), job, need, targets)?;
-        self.write(job, row)
-    }
-
-    pub fn grant(&mut self, granter: u8, waiter: u8) -> Result<(), BookFault> {
-        let granting = self.row(granter)?;
-        let waiting = self.row(waiter)?;
-        if !granting.is_active() {
-            return Err(BookFault::GranterBlocked);
-        }
-        let row = waiting.granted(granter).ok_or(BookFault::NoSuchWait)?;
-        self.write(waiter, row)
     }
 
     fn write(&mut self, job: u8, row: Row) -> Result<(), BookFault> {
@@ -65,8 +40,39 @@ impl Book {
         *place = row;
         Ok(())
     }
+}
 
-    pub fn open(&mut self) -> Result<(), BookFault> {
+impl Default for Book {
+    fn default() -> Book {
+        Book {
+            rows: vec![Row::IDLE; JOBS],
+            trail: Vec::with_capacity(TRAIL),
+            trail_max: TRAIL,
+            starts: Vec::with_capacity(DEPTH_MAX),
+        }
+    }
+}
+
+impl Calls for Book {
+    fn request(&mut self, job: u8, need: u8, targets: &[u8]) -> Result<(), BookFault> {
+        if !self.row(job)?.is_active() {
+            return Err(BookFault::Blocked);
+        }
+        let row = Row::request(self.rows.len(), job, need, targets)?;
+        self.write(job, row)
+    }
+
+    fn grant(&mut self, granter: u8, waiter: u8) -> Result<(), BookFault> {
+        let granting = self.row(granter)?;
+        let waiting = self.row(waiter)?;
+        if !granting.is_active() {
+            return Err(BookFault::GranterBlocked);
+        }
+        let row = waiting.granted(granter).ok_or(BookFault::NoSuchWait)?;
+        self.write(waiter, row)
+    }
+
+    fn open(&mut self) -> Result<(), BookFault> {
         if self.starts.len() == DEPTH_MAX {
             return Err(BookFault::TooDeep);
         }
@@ -74,16 +80,14 @@ impl Book {
         Ok(())
     }
 
-    /// Keeps the innermost group, if one is open.
-    pub fn keep(&mut self) {
+    fn keep(&mut self) {
         self.starts.pop();
         if self.starts.is_empty() {
             self.trail.clear();
         }
     }
 
-    /// Cancels the innermost group, if one is open.
-    pub fn cancel(&mut self) {
+    fn cancel(&mut self) {
         if let Some(start) = self.starts.pop() {
             for Old { job, row } in self.trail.drain(start..).rev() {
                 self.rows[usize::from(job)] = row;

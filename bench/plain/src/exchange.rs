@@ -1,10 +1,14 @@
 //! The detection: the jobs tell each other by messages whether one of them is stuck.
 
 use std::collections::VecDeque;
+use std::marker::PhantomData;
 
+use crate::book::Book;
 use crate::fault::DetectionFault;
 use crate::row::Row;
+use crate::script::Detects;
 use crate::waiters::{Waiters, WaitersOf};
+use crate::{JOBS, QUEUE};
 
 #[derive(Clone, Copy)]
 struct Wait {
@@ -39,10 +43,12 @@ struct Record {
 }
 
 /// The records and the queue, which runs use again.
-pub struct Detector {
+/// They find the waiters of a job in the way `W`.
+pub struct Detector<W> {
     records: Vec<Record>,
     queue: VecDeque<Message>,
     capacity: usize,
+    way: PhantomData<W>,
 }
 
 /// What a detection tells.
@@ -51,21 +57,20 @@ pub struct Found {
     pub deliveries: u32,
 }
 
-impl Detector {
-    pub fn new(jobs: usize, capacity: usize) -> Detector {
+impl<W> Default for Detector<W> {
+    fn default() -> Detector<W> {
         Detector {
-            records: vec![Record::default(); jobs],
-            queue: VecDeque::with_capacity(capacity),
-            capacity,
+            records: vec![Record::default(); JOBS],
+            queue: VecDeque::with_capacity(QUEUE),
+            capacity: QUEUE,
+            way: PhantomData,
         }
     }
+}
 
-    /// Whether the initiator is stuck.
-    pub fn detect<W: Waiters>(
-        &mut self,
-        rows: &[Row],
-        initiator: u8,
-    ) -> Result<Found, DetectionFault> {
+impl<W: Waiters> Detects<Book> for Detector<W> {
+    fn detect(&mut self, book: &Book, initiator: u8) -> Result<Found, DetectionFault> {
+        let rows = book.rows();
         if usize::from(initiator) >= rows.len() {
             return Err(DetectionFault::NoSuchJob);
         }

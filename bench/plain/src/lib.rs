@@ -4,17 +4,17 @@
 pub mod book;
 pub mod exchange;
 pub mod fault;
+pub mod reduction;
 pub mod row;
 pub mod script;
+pub mod tuned;
 pub mod waiters;
 
 use std::fmt;
 use std::io::{self, Read, Write};
 
-use book::Book;
-use exchange::Detector;
 use fault::Stopped;
-use waiters::Waiters;
+use script::{Calls, Detects};
 
 const JOBS: usize = 256;
 const TRAIL: usize = 1_024;
@@ -45,18 +45,17 @@ impl fmt::Debug for Trouble {
     }
 }
 
-/// Runs the script on standard input, and finds the waiters of a job in the way `W`.
-pub fn run_program<W: Waiters>() -> Result<(), Trouble> {
+/// Runs the script on standard input, on a new `B` and `D`.
+pub fn run_program<B: Calls + Default, D: Detects<B> + Default>() -> Result<(), Trouble> {
     // one byte more than a script can have, so that one that is too long is seen to be so
     let mut script = Vec::with_capacity(script::SCRIPT_MAX + 1);
     io::stdin()
         .take(script::SCRIPT_MAX as u64 + 1)
         .read_to_end(&mut script)
         .map_err(Trouble::Input)?;
-    let mut book = Book::new(JOBS, TRAIL);
-    let mut detector = Detector::new(JOBS, QUEUE);
     let mut answers = Vec::new();
-    let outcome = script::run::<W>(&script, &mut book, &mut detector, &mut answers, ANSWERS);
+    let (mut book, mut detector) = (B::default(), D::default());
+    let outcome = script::run(&script, &mut book, &mut detector, &mut answers, ANSWERS);
     io::stdout().write_all(&answers).map_err(Trouble::Output)?;
     outcome.map_err(Trouble::Stopped)
 }

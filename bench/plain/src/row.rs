@@ -41,6 +41,15 @@ impl Row {
         Ok(row)
     }
 
+    /// The row of a job of a chart, whose bytes are right.
+    pub fn from_bytes(&[need, count, ref targets @ ..]: &[u8; 2 + TARGETS_MAX]) -> Row {
+        Row {
+            need,
+            count,
+            targets: *targets,
+        }
+    }
+
     /// The row after a grant; none if it does not wait for the granter.
     pub fn granted(&self, granter: u8) -> Option<Row> {
         let place = self.targets().iter().position(|&t| t == granter)?;

@@ -1,12 +1,26 @@
 //! Scripts: commands as bytes.
 
-use crate::book::Book;
-use crate::exchange::{Detector, Found};
-use crate::fault::{ScriptFault, Stopped};
-use crate::waiters::Waiters;
+use crate::exchange::Found;
+use crate::fault::{BookFault, DetectionFault, ScriptFault, Stopped};
 
 pub const SCRIPT_MAX: usize = 8_192;
 const DETECTION_BYTES: usize = 4;
+
+/// The calls that a script makes of a book.
+pub trait Calls {
+    fn request(&mut self, job: u8, need: u8, targets: &[u8]) -> Result<(), BookFault>;
+    fn grant(&mut self, granter: u8, waiter: u8) -> Result<(), BookFault>;
+    fn open(&mut self) -> Result<(), BookFault>;
+    /// Keeps the innermost group, if one is open.
+    fn keep(&mut self);
+    /// Cancels the innermost group, if one is open.
+    fn cancel(&mut self);
+}
+
+/// What tells whether a job of a book is stuck.
+pub trait Detects<B> {
+    fn detect(&mut self, book: &B, job: u8) -> Result<Found, DetectionFault>;
+}
 
 enum Command<'s> {
     Request {
@@ -45,17 +59,17 @@ fn read(script: &[u8]) -> Result<(Command<'_>, &[u8]), ScriptFault> {
     }
 }
 
-struct Runner<'r> {
-    book: &'r mut Book,
-    detector: &'r mut Detector,
+struct Runner<'r, B, D> {
+    book: &'r mut B,
+    detector: &'r mut D,
     answers: &'r mut Vec<u8>,
     answers_max: usize,
     open: usize,
 }
 
-impl Runner<'_> {
+impl<B: Calls, D: Detects<B>> Runner<'_, B, D> {
     /// Carries out the first command, and gives back the bytes behind it.
-    fn step<'s, W: Waiters>(&mut self, script: &'s [u8]) -> Result<&'s [u8], ScriptFault> {
+    fn step<'s>(&mut self, script: &'s [u8]) -> Result<&'s [u8], ScriptFault> {
         let (command, rest) = read(script)?;
         match command {
             Command::Request { job, need, targets } => self.book.request(job, need, targets)?,
@@ -72,7 +86,7 @@ impl Runner<'_> {
                 self.close()?;
                 self.book.cancel();
             }
-            Command::Detect { job } => self.detect::<W>(job)?,
+            Command::Detect { job } => self.detect(job)?,
         }
         Ok(rest)
     }
@@ -82,11 +96,11 @@ impl Runner<'_> {
         Ok(())
     }
 
-    fn detect<W: Waiters>(&mut self, job: u8) -> Result<(), ScriptFault> {
+    fn detect(&mut self, job: u8) -> Result<(), ScriptFault> {
         if self.answers_max - self.answers.len() < DETECTION_BYTES {
             return Err(ScriptFault::NoAnswerSpace);
         }
-        let Found { stuck, deliveries } = self.detector.detect::<W>(self.book.rows(), job)?;
+        let Found { stuck, deliveries } = self.detector.detect(self.book, job)?;
         let [high, low] = (deliveries as u16).to_be_bytes();
         self.answers
             .extend_from_slice(&[job, u8::from(stuck), high, low]);
@@ -95,10 +109,10 @@ impl Runner<'_> {
 }
 
 /// Runs a script on a book; the groups that it leaves open are cancelled.
-pub fn run<W: Waiters>(
+pub fn run<B: Calls, D: Detects<B>>(
     script: &[u8],
-    book: &mut Book,
-    detector: &mut Detector,
+    book: &mut B,
+    detector: &mut D,
     answers: &mut Vec<u8>,
     answers_max: usize,
 ) -> Result<(), Stopped> {
@@ -122,7 +136,7 @@ pub fn run<W: Waiters>(
         if rest.is_empty() {
             break Ok(());
         }
-        match runner.step::<W>(rest) {
+        match runner.step(rest) {
             Ok(behind) => {
                 rest = behind;
                 index += 1;

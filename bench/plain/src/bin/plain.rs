@@ -1,7 +1,9 @@
-//! Finds the waiters of a job in one pass over the rows, as `waits` does.
+//! Finds the waiters of a job in one pass over the rows.
+use plain::book::Book;
+use plain::exchange::Detector;
 use plain::waiters::Pass;
 use plain::{Trouble, run_program};
 
 fn main() -> Result<(), Trouble> {
-    run_program::<Pass>()
+    run_program::<Book, Detector<Pass>>()
 }
