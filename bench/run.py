@@ -241,7 +241,7 @@ def main():
     options = parser.parse_args()
     if options.waits:
         PROGRAMS["waits"] = options.waits.resolve()
-    if not PROGRAMS["waits"].exists():
+    if options.only != "reductions" and not PROGRAMS["waits"].exists():
         sys.exit("build waits first: (cd crates/waits && rt run </dev/null)")
     subprocess.run(["cargo", "build", "-q", "--release", "--offline"], cwd=BENCH / "plain", check=True)
     shared = Path("/dev/shm")

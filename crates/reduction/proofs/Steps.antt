@@ -1,8 +1,8 @@
 -- What marking a job keeps.
-use Rattle.std.proofs.Common.{◌≡◌, ℕ, ◌+◌, ◌-◌, ◌<◌, ◌≤◌, Bool, true, false, cond, ◌||◌, eqb, leb, ◌⊎◌, List, [], ◌∷◌, ◌++◌, length, get_or, set, replicate, sym, refl, ap, ◌∙◌, subst, inl, inr, arith}
+use Rattle.std.proofs.Common.{◌≡◌, ℕ, ◌+◌, ◌-◌, ◌<◌, ◌≤◌, Bool, true, false, cond, not, ◌&&◌, ◌||◌, eqb, leb, ◌⊎◌, List, [], ◌∷◌, ◌++◌, length, get_or, set, replicate, sym, refl, ap, ◌∙◌, subst, inl, inr, arith}
 use Rattle.std.proofs.lemmas.List.{length-set, length_push, length-replicate, get_or-set_same, get_or-set_other, get_or_past, get_or-replicate}
 use Rattle.std.proofs.lemmas.List.Sums.{count_by-le-length, sum_by-set}
-use Rattle.std.proofs.lemmas.Bool.{or_right, or_cases, cases_eq, cases_lt, cases_Bool, true≢false, eq-eqb, ne_eqb, eqb-true, and_parts}
+use Rattle.std.proofs.lemmas.Bool.{or_cases, cases_eq, cases_lt, cases_Bool, true≢false, eq-eqb, ne_eqb, eqb-true, and_parts, and_right}
 use Rattle.std.proofs.lemmas.Bool.Decides.{nat_tests}
 use Rattle.containers.specs.Held.{Held, vacant}
 use Rattle.rows.specs.Waiting.{Waiting, at, among}
@@ -11,9 +11,9 @@ use Rattle.rows.specs.Law.{rising}
 use Rattle.rows.proofs.Laws.{fits_shaped}
 use Rattle.tables.proofs.Grants.{closed_at}
 use Rattle.tables.proofs.Laws.{lawful_at, who_waits_is_a_job}
-use Rattle.tables.proofs.Waiters.{waiters_rise, waiters_are_who_waits, among_rising_is_not_below}
+use Rattle.tables.proofs.Waiters.{among_rising_is_not_below}
 use Rattle.reduction.specs.Marks.{loose, held, is_loose}
-use Rattle.tables.specs.Tables.{jobs_max, lawful, waiters}
+use Rattle.tables.specs.Tables.{jobs_max, lawful}
 use Rattle.reduction.specs.Work.{Work, loose_count, looked_at, steps_left, NoneTwice, SoundMarks, Lacks, Settled, AtHand, CanBeLoosened, with_loose, one_less, lowered, CanBeLowered, Decided}
 
 -- ---- counts
@@ -261,17 +261,15 @@ start_settled w i l s v b m =
 -- ---- from waiter to waiter of a job
 
 -- Those that are left still lack the job at hand, and no other does.
-abbrev pub queue_of : (left : List ℕ) (job : ℕ) (queue : List ℕ) → ℕ → List ℕ
-queue_of left job queue v = cond (among v left) (job ∷ queue) queue
+abbrev pub queue_of : (left : ℕ → Bool) (job : ℕ) (queue : List ℕ) → ℕ → List ℕ
+queue_of left job queue v = cond (left v) (job ∷ queue) queue
 
-pub record Lowering (w₀ : Work) (job : ℕ) (left : List ℕ) (w : Work) : Type 0 where
+pub record Lowering (w₀ : Work) (job : ℕ) (left : ℕ → Bool) (w : Work) : Type 0 where
   pub rows : w.rows ≡ w₀.rows
   pub base : SoundMarks w
   pub marked : is_loose w.marks job ≡ true
   pub apart : among job w.queue ≡ false
-  pub low : ℕ
-  pub rise : rising low left ≡ true
-  pub wait : (v : ℕ) → among v left ≡ true → among job (at w.rows v).targets ≡ true
+  pub wait : (v : ℕ) → left v ≡ true → among job (at w.rows v).targets ≡ true
   pub lacks : (v : ℕ) → v < length w.rows → is_loose w.marks v ≡ false → Lacks w (looked_at w.marks (queue_of left job w.queue v)) v
   pub steps : steps_left w ≡ steps_left w₀
 
@@ -279,51 +277,59 @@ pub record Lowering (w₀ : Work) (job : ℕ) (left : List ℕ) (w : Work) : Typ
 at_hand_alone : (w : Work) (job : ℕ) (u : ℕ) → (job ≡ u → ⊥) → looked_at w.marks (job ∷ w.queue) u ≡ looked_at w.marks w.queue u
 at_hand_alone w job u d = let q = ne_eqb job u d in rw q refl
 
-pub lower_start : (w : Work) (job : ℕ) → SoundMarks w → AtHand w job → Lowering w job (waiters w.rows job) w
+-- At the start all waiters are left.
+pub lower_start : (w : Work) (job : ℕ) → SoundMarks w → AtHand w job → Lowering w job (λ v. among job (at w.rows v).targets) w
 lower_start w job b h = record {
   rows = refl;
   base = b;
   marked = h.marked;
   apart = h.apart;
-  low = 0;
-  rise = waiters_rise w.rows job;
-  wait = λ v a. sym (waiters_are_who_waits w.rows job v) ∙ a;
-  lacks = λ v l m. elim (cases_Bool (among v (waiters w.rows job))) [
+  wait = λ v a. a;
+  lacks = λ v l m. elim (cases_Bool (among job (at w.rows v).targets)) [
     | inl a ↦ rw a (h.settled v l m)
     | inr a ↦
-        let other : among job (at w.rows v).targets ≡ false = sym (waiters_are_who_waits w.rows job v) ∙ a in
         let same = count_same (looked_at w.marks w.queue) (looked_at w.marks (job ∷ w.queue)) (at w.rows v).targets
-        (λ u t. sym (at_hand_alone w job u (λ (e : job ≡ u). true≢false (sym t ∙ subst (λ k. among k (at w.rows v).targets ≡ false) e other)))) in
+        (λ u t. sym (at_hand_alone w job u (λ (e : job ≡ u). true≢false (sym t ∙ subst (λ k. among k (at w.rows v).targets ≡ false) e a)))) in
         let p = h.settled v l m in
         rw a (p.0, omega (arith, p.1, same))
   ];
   steps = refl;
 }
 
-pub lower_end : (w₀ : Work) (job : ℕ) (left : List ℕ) (w : Work) → left ≡ [] → Lowering w₀ job left w → Settled w
-lower_end w₀ job left w e p v l m = rw e at (p.lacks v l m)
+-- The same jobs are left, told by another test.
+pub lower_same : (w₀ : Work) (job : ℕ) (left rest : ℕ → Bool) (w : Work) → ((v : ℕ) → left v ≡ rest v) → Lowering w₀ job left w → Lowering w₀ job rest w
+lower_same w₀ job left rest w e p = record {
+  rows = p.rows;
+  base = p.base;
+  marked = p.marked;
+  apart = p.apart;
+  wait = λ v a. p.wait v (e v ∙ a);
+  lacks = λ v l m. subst (λ (b : Bool). Lacks w (looked_at w.marks (cond b (job ∷ w.queue) w.queue)) v) (e v) (p.lacks v l m);
+  steps = p.steps;
+}
 
-module _ (w₀ : Work) (job x : ℕ) (left rest : List ℕ) (w : Work) (p : Lowering w₀ job left w) (e : left ≡ x ∷ rest) where
-  x_is_left : among x left ≡ true
-  x_is_left = rw e (let q = eq-eqb x x refl in rw q refl)
+pub lower_end : (w₀ : Work) (job : ℕ) (left : ℕ → Bool) (w : Work) → ((v : ℕ) → left v ≡ false) → Lowering w₀ job left w → Settled w
+lower_end w₀ job left w e p v l m = rw (e v) at (p.lacks v l m)
 
+-- One of those that are left is looked at, and then is not left.
+module _ (w₀ : Work) (job x : ℕ) (left rest : ℕ → Bool) (w : Work) (p : Lowering w₀ job left w) (x_is_left : left x ≡ true) (taken : (v : ℕ) → rest v ≡ (left v && not (eqb v x))) where
   pub x_is_a_job : x < length w.rows
   x_is_a_job = who_waits_is_a_job w.rows x job (p.wait x x_is_left)
 
-  rest_rises : rising (x + 1) rest ≡ true
-  rest_rises = (and_parts (leb p.low x) (rising (x + 1) rest) (rw e at p.rise)).1
+  x_is_not_in_rest : rest x ≡ false
+  x_is_not_in_rest = taken x ∙ and_right (left x) (not (eqb x x)) (ap not (eq-eqb x x refl))
 
-  x_is_not_in_rest : among x rest ≡ false
-  x_is_not_in_rest = elim (cases_Bool (among x rest)) [
-    | inl a ↦ absurd (omega (arith, among_rising_is_not_below (x + 1) rest x rest_rises a))
-    | inr a ↦ a
-  ]
+  rest_is_left : (v : ℕ) → rest v ≡ true → left v ≡ true
+  rest_is_left v a = (and_parts (left v) _ (sym (taken v) ∙ a)).0
 
-  rest_is_left : (v : ℕ) → among v rest ≡ true → among v left ≡ true
-  rest_is_left v a = rw e (or_right (eqb x v) (among v rest) a)
+  others_stay : (v : ℕ) → (v ≡ x → ⊥) → left v ≡ rest v
+  others_stay v d = sym (taken v ∙ ap (λ b. left v && not b) (ne_eqb v x d) ∙ and_true (left v))
+    where
+      and_true : (a : Bool) → (a && true) ≡ a
+      and_true a = elim a as (λ (a : Bool). (a && true) ≡ a) [ true ↦ refl | false ↦ refl ]
 
   others_are_as_before : (v : ℕ) → (v ≡ x → ⊥) → queue_of left job w.queue v ≡ queue_of rest job w.queue v
-  others_are_as_before v d = let q = ne_eqb x v (λ k. d (sym k)) in rw (e, q) refl
+  others_are_as_before v d = ap (λ (b : Bool). cond b (job ∷ w.queue) w.queue) (others_stay v d)
 
   -- One target more is done, of those of x.
   one_target_more : count (looked_at w.marks w.queue) (at w.rows x).targets ≡ count (looked_at w.marks (job ∷ w.queue)) (at w.rows x).targets + 1
@@ -365,8 +371,6 @@ module _ (w₀ : Work) (job x : ℕ) (left rest : List ℕ) (w : Work) (p : Lowe
     base = counters_base w lacking long p.base;
     marked = p.marked;
     apart = p.apart;
-    low = x + 1;
-    rise = rest_rises;
     wait = λ v a. p.wait v (rest_is_left v a);
     lacks = all;
     steps = p.steps;
@@ -420,8 +424,6 @@ module _ (w₀ : Work) (job x : ℕ) (left rest : List ℕ) (w : Work) (p : Lowe
           base = mark_base (one_less w x) x one can_one;
           marked = marked_still w.marks x job k p.marked;
           apart = among_push job x w.queue ∙ (let a = p.apart in let q = ne_eqb x job (λ e. true≢false (sym p.marked ∙ subst (λ k. is_loose w.marks k ≡ false) e m)) in rw (a, q) refl);
-          low = x + 1;
-          rise = rest_rises;
           wait = λ v a. p.wait v (rest_is_left v a);
           lacks = λ v l u.
               let was = unmarked_before w.marks x v k u in
@@ -431,7 +433,7 @@ module _ (w₀ : Work) (job x : ℕ) (left rest : List ℕ) (w : Work) (p : Lowe
         }
       where
         queued_more : (v t : ℕ) → looked_at (set w.marks x loose) (queue_of rest job (w.queue ++ x ∷ []) v) t ≡ looked_at w.marks (queue_of rest job w.queue v) t
-        queued_more v t = go (among v rest)
+        queued_more v t = go (rest v)
           where
             go : (b : Bool) → looked_at (set w.marks x loose) (cond b (job ∷ (w.queue ++ x ∷ [])) (w.queue ++ x ∷ [])) t ≡ looked_at w.marks (cond b (job ∷ w.queue) w.queue) t
             go true = done_same w.marks (job ∷ w.queue) x t (omega (arith, p.base.len, x_is_a_job)) m

@@ -7,37 +7,37 @@ ghost use Rattle.reduction.specs.Work.{Settled, AtHand, CanBeLoosened, CanBeLowe
 use crate::marks::{HELD, LOOSE};
 use containers::{Container, Queue};
 use std::marker::Model;
-use tables::{JOBS_MAX, Table, TwoWayTable};
+use tables::{Indexed, JOB_WORDS, JOBS_MAX, Table, WORD_JOBS};
 
 // Marked jobs are queued until their waiters have been looked at; no job is marked twice, so that the queue has room for each.
 // A job that is not marked has a counter of the targets that it lacks, which each target lowers once.
 // The marks are its own and are copied out at the end: what a lent slice ends as, no contract of a type with a model can tell.
 #[derive(Drop)]
-pub(crate) struct Marking<'a, 'q, T: TwoWayTable> {
-    table: &'a T,
+pub(crate) struct Marking<'a, 'q, T: Table> {
+    table: &'a Indexed<'a, T>,
     pub(crate) marks: [u8; JOBS_MAX],
     lacking: [u8; JOBS_MAX],
     pub(crate) queue: Queue<'q, u8>,
 }
 
-impl<'a, 'q, T: TwoWayTable> Model for Marking<'a, 'q, T> {
+impl<'a, 'q, T: Table> Model for Marking<'a, 'q, T> {
     ghost use Rattle.std.specs.Prelude.{◌≡◌};
     ghost use Rattle.tables.specs.Tables.{jobs_max};
     ghost use Rattle.reduction.specs.Work.{Work, SoundMarks};
 
     ghost Value = { Work };
 
-    ghost view = { λ m. record { rows = T.Table.rows m.table.now; marks = m.marks; lacking = m.lacking; queue = m.queue.items } };
+    ghost view = { λ m. record { rows = T.Table.rows m.table.now.table.now; marks = m.marks; lacking = m.lacking; queue = m.queue.items } };
 
-    ghost invariant = { λ m. SoundMarks (record { rows = T.Table.rows m.table.now; marks = m.marks; lacking = m.lacking; queue = m.queue.items })
+    ghost invariant = { λ m. SoundMarks (record { rows = T.Table.rows m.table.now.table.now; marks = m.marks; lacking = m.lacking; queue = m.queue.items })
         × (m.queue.capacity ≡ jobs_max) };
 }
 
-impl<'a, 'q, T: TwoWayTable> Marking<'a, 'q, T> {
+impl<'a, 'q, T: Table> Marking<'a, 'q, T> {
     // Marks the active jobs, and queues them; each other lacks all that it needs.
-    pub(crate) fn begin(table: &'a T, queue: Queue<'q, u8>) -> Marking<'a, 'q, T>
+    pub(crate) fn begin(table: &'a Indexed<'a, T>, queue: Queue<'q, u8>) -> Marking<'a, 'q, T>
         requires { queue ≡ vacant jobs_max }
-        ensures rows { result.rows ≡ T.Table.rows table.now }
+        ensures rows { result.rows ≡ T.Table.rows table.now.table.now }
         ensures settled { Settled result }
     {
         let mut marking = Marking {
@@ -64,8 +64,14 @@ impl<'a, 'q, T: TwoWayTable> Marking<'a, 'q, T> {
         ensures settled { Settled self.new }
         ensures steps { steps_left self.new ≡ steps_left self.old }
     {
-        for waiter in self.table.waiters(job) {
-            self.lower(waiter);
+        let table = self.table;
+        for word in 0..JOB_WORDS {
+            let mut rest = table.waiters_in_word(job, word);
+            while rest != 0 {
+                let place = rest.trailing_zeros() as usize;
+                self.lower(word * WORD_JOBS + place);
+                rest &= !(1 << place);
+            }
         }
     }
 

@@ -7,7 +7,7 @@ ghost use Rattle.reduction.specs.Reduced.{stop, Reduced};
 use crate::fault::ReductionFault;
 use crate::marking::Marking;
 use containers::{Container, Queue};
-use tables::{INDEX_WORDS, Indexed, JOBS_MAX, Table, TwoWayTable};
+use tables::{INDEX_WORDS, Indexed, JOBS_MAX, Table};
 
 /// Writes 0 for each loosened job of a table and 1 for each other into the first bytes; those behind stay as they are. Refused with 10
 /// where there are fewer bytes than jobs, and then all bytes stay as they are.
@@ -26,8 +26,8 @@ pub fn reduce<T: Table>(table: &T, bytes: &mut [u8]) -> Result<(), ReductionFaul
 }
 
 // The marks of a table's jobs, when no more can be loosened.
-fn marks_of<T: TwoWayTable>(table: &T) -> [u8; JOBS_MAX]
-    ensures { Decided (T.Table.rows table.now) result }
+fn marks_of<T: Table>(table: &Indexed<'_, T>) -> [u8; JOBS_MAX]
+    ensures { Decided (T.Table.rows table.now.table.now) result }
 {
     let mut cells = [0; JOBS_MAX];
     let mut marking = Marking::begin(table, Queue::new(&mut cells));

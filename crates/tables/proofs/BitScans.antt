@@ -1,5 +1,5 @@
 -- The lowest bit of a word, from a place on, is the first mark from there on.
-use Rattle.std.proofs.Common.{◌≡◌, ℕ, ◌+◌, ◌-◌, ◌*◌, ◌/◌, ◌%◌, ◌^◌, ◌<◌, ◌≤◌, true, false, eqb, List, length, slice_index, refl, sym, ap, ◌∙◌, subst, inl, inr, arith}
+use Rattle.std.proofs.Common.{◌≡◌, ℕ, ◌+◌, ◌-◌, ◌*◌, ◌/◌, ◌%◌, ◌^◌, ◌<◌, ◌≤◌, true, false, eqb, List, length, slice_index, refl, sym, ap, ◌∙◌, subst, ◌⊎◌, inl, inr, arith}
 use Rattle.std.proofs.lemmas.Bool.{cases_lt, eq-eqb, false_from_ne_true}
 use Rattle.std.proofs.lemmas.Nat.{pow_pos, mod_below, shr_below}
 use Rattle.std.proofs.lemmas.Nat.Bits.{bit_at_cat_high, bit_at-zero, bit_at_above, bit_at-trailing_zeros}
@@ -10,7 +10,7 @@ use Rattle.rows.specs.Waiting.{Waiting, at, among}
 use Rattle.tables.specs.Tables.{waiters, first_from}
 use Rattle.tables.proofs.Laws.{who_waits_is_a_job, target_below}
 use Rattle.tables.proofs.Waiters.{first_who_waits_is_the_first_waiter}
-use Rattle.tables.specs.BitMatrix.{MarksWaits, word_end}
+use Rattle.tables.specs.BitMatrix.{MarksWaits, ShowsWaiters, word_end}
 
 -- The bits of a shifted word.
 shifted_bit : (n k j : ℕ) → bit_at (n / 2 ^ k) j ≡ bit_at n (k + j)
@@ -69,6 +69,24 @@ module _ {rows : List Waiting} {words : List ℕ} (marked : MarksWaits rows word
         sym (bits_tell (trailing_zeros w64 n) inside) ∙ eq-eqb _ 1 low.1,
         λ w l h. sym (tells_at w l (omega arith)) ∙ ap (λ (b : ℕ). eqb b 1) (low.2 (w - from) (omega arith)),
       )
+
+-- The bits of a whole word show who waits, and no bit shows it of a job or word that there is not.
+module _ {rows : List Waiting} {words : List ℕ} (marked : MarksWaits rows words) (u word : ℕ) where
+  pub word_shows_waiters : word < 4 → ShowsWaiters rows u word (slice_index words (u * 4 + word))
+  word_shows_waiters low i l =
+      let part : (word * 64 + i) / 64 ≡ word = omega arith in
+      let bit : (word * 64 + i) % 64 ≡ i = omega arith in
+      sym (ap (λ (p : ℕ). eqb (bit_at (slice_index words (u * 4 + p)) ((word * 64 + i) % 64)) 1) part ∙ ap (λ (b : ℕ). eqb (bit_at (slice_index words (u * 4 + word)) b) 1) bit)
+      ∙ marked.exact u (word * 64 + i) (omega arith)
+
+  pub no_bit_shows_waiters : (256 ≤ u) ⊎ (4 ≤ word) → ShowsWaiters rows u word 0
+  no_bit_shows_waiters past i l =
+      ap (λ (b : ℕ). eqb b 1) (bit_at-zero i)
+      ∙ sym (false_from_ne_true (among u (at rows (word * 64 + i)).targets) (λ a.
+      elim past [
+        | inl far ↦ absurd (omega (arith, target_below rows marked.table.lawful (word * 64 + i) u a, marked.table.few))
+        | inr far ↦ absurd (omega (arith, who_waits_is_a_job rows (word * 64 + i) u a, marked.table.few))
+      ]))
 
 -- From word to word: no job from `from` up to `low` waits.
 module _ {rows : List Waiting} {words : List ℕ} (marked : MarksWaits rows words) (u from : ℕ) where

@@ -28,6 +28,10 @@ pub record MarksWaits (rows : List Waiting) (words : List ℕ) : Type 0 where
   pub table : IsTable rows
   pub exact : (u waiter : ℕ) → waiter < jobs_max → is_marked words u waiter ≡ among u (at rows waiter).targets
 
+-- The bits of a word show which of the jobs that it is for wait for u.
+abbrev pub ShowsWaiters : List Waiting → (u word bits : ℕ) → Type 0
+ShowsWaiters rows u word bits = (i : ℕ) → i < word_jobs → (bit_at bits i == 1) ≡ among u (at rows (word * word_jobs + i)).targets
+
 -- The number behind those of the word in which a number lies.
 abbrev pub word_end : ℕ → ℕ
 word_end from = (from / word_jobs + 1) * word_jobs

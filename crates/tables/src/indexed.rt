@@ -2,15 +2,15 @@
 ghost use Rattle.std.specs.Prelude.{◌≡◌, ◌<◌, ◌≤◌, ◌^◌, length};
 ghost use Rattle.rows.specs.Waiting.{at};
 ghost use Rattle.tables.specs.Tables.{jobs_max, waits_max, waits as waits_of};
-ghost use Rattle.tables.specs.BitMatrix.{MarksWaits, MarkedToo, RowMarked, FirstUpTo, word_end};
+ghost use Rattle.tables.specs.BitMatrix.{MarksWaits, MarkedToo, RowMarked, ShowsWaiters, FirstUpTo, word_end};
 
 use crate::table::{JOBS_MAX, Table, TwoWayTable};
 
-// For how many jobs a word has a bit.
-const WORD_JOBS: usize = 64;
+/// For how many jobs a word has a bit.
+pub const WORD_JOBS: usize = 64;
 
-// How many words a job has: a bit for each that may wait for it.
-const JOB_WORDS: usize = 4;
+/// How many words a job has: a bit for each that may wait for it.
+pub const JOB_WORDS: usize = 4;
 
 /// How many words an index takes.
 pub const INDEX_WORDS: usize = JOBS_MAX * JOB_WORDS;
@@ -38,6 +38,16 @@ impl<'a, T: Table> Indexed<'a, T> {
             words,
             waits,
         }
+    }
+
+    /// Which of the 64 jobs that a word is for wait for a job, the first by the lowest bit. Where there is no such job or word, none does.
+    pub fn waiters_in_word(&self, job: usize, word: usize) -> u64
+        ensures { ShowsWaiters (T.Table.rows self.now.table.now) job word result }
+    {
+        if job >= JOBS_MAX || word >= JOB_WORDS {
+            return 0;
+        }
+        self.words[job * JOB_WORDS + word]
     }
 
     // The first waiter of a job from a number on, as far as one word tells.

@@ -4,7 +4,7 @@ use Rattle.reduction.proofs.passes.marks_of.Given as goal
 
 abbrev pub invariant-loop-marking : goal.invariant-loop-marking
 invariant-loop-marking g l = record {
-  rows : l.marking.rows ≡ g.T.Table.rows l.table;
+  rows : l.marking.rows ≡ g.T.Table.rows l.fn.table.table.now;
   settled : Settled l.marking;
 }
 

@@ -6,12 +6,12 @@ use Rattle.reduction.proofs.marking.Marking.begin.Goals as goal
 use Rattle.reduction.proofs.marking.Marking.begin.Goals.{then-need-eq0, else-need-eq0}
 
 pub invariant_of-marking : goal.invariant_of-marking
-invariant_of-marking g c = start_made (g.T.Table.rows c.args.table.now) c.args.queue c.requires c.jobs-job-end.ensures.lawful (omega (arith, c.jobs-job-end.ensures.value, c.jobs-job-end.ensures.bound))
+invariant_of-marking g c = start_made (g.T.Table.rows c.args.table.now.table.now) c.args.queue c.requires c.jobs-job-end.ensures.lawful (omega (arith, c.jobs-job-end.ensures.value, c.jobs-job-end.ensures.bound))
 
 pub loop-job-init : goal.loop-job-init
 loop-job-init g c = record {
   rows = refl;
-  started = start_first (g.T.Table.rows c.args.table.now) c.args.queue c.requires c.jobs-job-end.ensures.lawful (omega (arith, c.jobs-job-end.ensures.value, c.jobs-job-end.ensures.bound));
+  started = start_first (g.T.Table.rows c.args.table.now.table.now) c.args.queue c.requires c.jobs-job-end.ensures.lawful (omega (arith, c.jobs-job-end.ensures.value, c.jobs-job-end.ensures.bound));
 }
 
 pub returns-clause-settled : goal.returns-clause-settled
