@@ -1,3 +1,3 @@
-pub mod Alive
-pub mod Granting
+pub mod LifeInvariant
+pub mod GrantLemmas
 pub mod Lives

@@ -3,10 +3,10 @@ use Rattle.lives.proofs.Lives.{HappensToHistory, law_of_lives}
 use Rattle.book.specs.Events.{RunsOnBook, RunsOnHistory}
 use Rattle.book.specs.Law.{LawOfPlainBooks}
 use Rattle.store.specs.Plain.{plain}
-use Rattle.histories.specs.Subjects.{of_history}
+use Rattle.histories.specs.Machines.{of_history}
 use Rattle.scripts.proofs.GroupCounts.{of_history_counts}
 use Rattle.scripts.proofs.ScriptCalls.{scripted_counts}
-use Rattle.scripts.proofs.Simulated.{scripted_so}
+use Rattle.scripts.proofs.ScriptSimulation.{scripted_so}
 
 -- scripts do
 pub scripts_follow : HappensToHistory plain RunsOnBook RunsOnHistory

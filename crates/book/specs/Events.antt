@@ -3,10 +3,10 @@ use Rattle.std.specs.Prelude.{ℕ, List, Result}
 use Rattle.rows.specs.Waiting.{Waiting}
 use Rattle.groups.specs.History.{History}
 use Rattle.histories.specs.Rules.{Terms}
-use Rattle.histories.specs.Subjects.{Subject, View, of_book, of_history}
+use Rattle.histories.specs.Machines.{Subject, View, of_book, of_history}
 use Rattle.lives.specs.Events.{Event, special, Does, Life}
 use Rattle.store.specs.Edits.{Edit}
-use Rattle.scripts.specs.Lent.{Lent}
+use Rattle.scripts.specs.Workspace.{Lent}
 use Rattle.store.specs.Plain.{plain}
 use Rattle.scripts.specs.ScriptCalls.{CountsAs}
 use Rattle.scripts.specs.Scripts.{Scripted}

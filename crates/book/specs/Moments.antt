@@ -13,11 +13,11 @@ use Rattle.histories.specs.Calls.{edits, opens, ends}
 use Rattle.lives.specs.Events.{made, detected}
 use Rattle.book.specs.Events.{BookEvent, scripted, LifeOfBook, LifeOfHistory}
 use Rattle.store.specs.Creation.{new_book, new_terms}
-use Rattle.scripts.specs.Lent.{Lent}
+use Rattle.scripts.specs.Workspace.{Lent}
 use Rattle.scripts.specs.ScriptRuns.{script_written}
 use Rattle.store.specs.Snapshots.{snapshot_view}
-use Rattle.histories.specs.Subjects.{of_history, View, view_of}
-use Rattle.store.specs.Views.{edit_of, told, told_stub, told_ending_by}
+use Rattle.histories.specs.Machines.{of_history, View, view_of}
+use Rattle.store.specs.Replies.{edit_of, told, told_stub, told_ending_by}
 use Rattle.store.specs.declared.fault.BookFault.{BookFault}
 use Rattle.store.specs.declared.fault.RefusedStub.{RefusedStub}
 use Rattle.book.specs.declared.life.call.Answer.{Answer}

@@ -3,15 +3,15 @@ ghost use Rattle.std.specs.Prelude.{◌≡◌, ◌<◌, ◌≤◌, ◌+◌, leng
 ghost use Rattle.store.specs.Edits.{requests, grants};
 ghost use Rattle.store.specs.Creation.{new_book};
 ghost use Rattle.store.specs.Plain.{plain};
-ghost use Rattle.store.specs.Views.{told};
+ghost use Rattle.store.specs.Replies.{told};
 ghost use Rattle.book.specs.Tickets.{told_opening, told_ending};
 ghost use Rattle.groups.specs.History.{begun};
 ghost use Rattle.groups.specs.Limits.{depth_max};
 ghost use Rattle.histories.specs.Calls.{edits, opens, keeps, cancels, ends};
 ghost use Rattle.histories.specs.Histories.{Called, Shows};
-ghost use Rattle.histories.specs.Subjects.{of_book, view_of};
+ghost use Rattle.histories.specs.Machines.{of_book, view_of};
 ghost use Rattle.store.specs.Snapshots.{snapshot_view};
-ghost use Rattle.scripts.specs.Lent.{lent};
+ghost use Rattle.scripts.specs.Workspace.{lent};
 ghost use Rattle.scripts.specs.ScriptCalls.{CountsAs};
 ghost use Rattle.scripts.specs.ScriptRuns.{RanScript, script_written};
 ghost use Rattle.histories.specs.Rules.{SameGroups};

@@ -6,7 +6,7 @@ use Rattle.std.proofs.lemmas.List.{length-append}
 use Rattle.std.proofs.lemmas.List.Sorted.{IsPermutation-append_comm, length_permutation}
 use Rattle.containers.specs.Held.{Held, has_room, with_last}
 use Rattle.carriers.specs.Meaning.{Put, Took}
-use Rattle.carriers.specs.Parts.{carried_from}
+use Rattle.carriers.specs.CountedCarriers.{carried_from}
 use Rattle.carriers.specs.declared.message.Message.{Message}
 
 -- A message put last waits beside the others.

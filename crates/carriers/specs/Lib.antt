@@ -2,5 +2,5 @@
 pub mod Faults
 pub mod Messages
 pub mod Meaning
-pub mod Parts
+pub mod CountedCarriers
 pub mod Picks

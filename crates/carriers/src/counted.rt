@@ -3,7 +3,7 @@ ghost use Rattle.std.specs.Prelude.{◌≡◌, length, is_ok, if◌then◌else�
 ghost use Rattle.containers.specs.Held.{with_last};
 ghost use Rattle.carriers.specs.Faults.{refusal_number};
 ghost use Rattle.carriers.specs.Meaning.{Put, Took};
-ghost use Rattle.carriers.specs.Parts.{carried_from, carried_by, held_carried, container, picker_messages, picks_left, new_carrier};
+ghost use Rattle.carriers.specs.CountedCarriers.{carried_from, carried_by, held_carried, container, picker_messages, picks_left, new_carrier};
 
 use crate::carrier::{Carrier, CarrierFull};
 use crate::message::{Kind, Message, Wait};

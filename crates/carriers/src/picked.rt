@@ -1,7 +1,7 @@
 // The container whose messages come in an order that its user picks.
 ghost use Rattle.std.specs.Prelude.{◌≡◌, ◌<◌, length};
 ghost use Rattle.containers.specs.Held.{vacant};
-ghost use Rattle.carriers.specs.Parts.{picker_messages, picks_left};
+ghost use Rattle.carriers.specs.CountedCarriers.{picker_messages, picks_left};
 ghost use Rattle.carriers.specs.Picks.{picked_place, same_picks, gives_picked, picked_loses_none};
 
 use crate::message::Message;

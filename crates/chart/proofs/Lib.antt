@@ -1,5 +1,5 @@
 -- The lemmas, by topic.
 mod Rows
 mod Scans
-mod Taken
+mod CheckedCharts
 mod WritingLemmas

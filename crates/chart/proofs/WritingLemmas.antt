@@ -16,7 +16,7 @@ use Rattle.rows.proofs.ObeysLemmas.{map_obeys}
 use Rattle.rows.proofs.Places.{places_tell, places_of_targets_fit, targets_are_in_use}
 use Rattle.rows.specs.Law.{targets_max, row_fits}
 use Rattle.rows.specs.Obeys.{rows_obey}
-use Rattle.rows.specs.Views.{places_of}
+use Rattle.rows.specs.StoredRows.{places_of}
 use Rattle.rows.specs.Waiting.{Waiting, idle, at, target_at}
 use Rattle.tables.specs.Tables.{lawful, IsTable}
 use Rattle.chart.specs.Check.{row_right, first_wrong_row, wrong_length, rows_told, checked}

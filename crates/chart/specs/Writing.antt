@@ -2,7 +2,7 @@
 use Rattle.std.specs.Prelude.{◌≡◌, ℕ, cond, List, ◌∷◌, length, None, Ok, Err, Result, ◌==◌}
 use Rattle.std.specs.List.{flat_map}
 use Rattle.rows.specs.Waiting.{Waiting}
-use Rattle.rows.specs.Views.{places_of}
+use Rattle.rows.specs.StoredRows.{places_of}
 use Rattle.chart.specs.Check.{checked, chart_rows}
 use Rattle.chart.specs.Faults.{Refusal, refused}
 

@@ -16,7 +16,7 @@ use Rattle.exchange.specs.Records.{with_granted, with_freed_by}
 use Rattle.exchange.specs.Bounds.{Due}
 use Rattle.exchange.specs.Rules.{Act, and_then, let_go, notify_all, spread, freed_on, react}
 use Rattle.exchange.specs.declared.record.RunRecord.{RunRecord}
-use Rattle.detection.specs.Asked.{RoomFor}
+use Rattle.detection.specs.Preconditions.{RoomFor}
 use Rattle.tables.proofs.Sizes.{targets_are_few}
 
 -- An active job that spreads notifies all, and then lets go.

@@ -11,7 +11,7 @@ use Rattle.exchange.specs.Runs.{Exchange}
 use Rattle.exchange.specs.declared.record.RunRecord.{RunRecord}
 use Rattle.detection.specs.Detected.{stop, verdict_of, Finished}
 use Rattle.detection.specs.declared.verdict.Detection.{Detection}
-use Rattle.detection.proofs.Going.{state}
+use Rattle.detection.proofs.RunInvariant.{state}
 
 pub no_check_stops : (rows : List Waiting) (initiator records : ℕ) (carrier : Carried) → initiator < length rows → length rows ≤ records
     → length carrier.waiting ≡ 0 → 2 * waits rows ≤ carrier.capacity → None ≡ stop rows initiator records carrier

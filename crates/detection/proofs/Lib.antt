@@ -1,7 +1,7 @@
 -- The lemmas, by topic.
 mod Checks
-mod Walked
+mod SendLemmas
 mod Acts
-mod Going
+mod RunInvariant
 mod Verdicts
-mod Finishes
+mod FinishedRuns

@@ -2,4 +2,4 @@
 pub mod Faults
 pub mod Detected
 pub mod Detects
-pub mod Asked
+pub mod Preconditions

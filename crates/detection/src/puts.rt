@@ -4,7 +4,7 @@ ghost use Rattle.carriers.specs.Meaning.{Sent};
 ghost use Rattle.rows.specs.Waiting.{at};
 ghost use Rattle.tables.specs.Tables.{waiters};
 ghost use Rattle.exchange.specs.Messages.{message, notify_messages, grant_messages, put_on};
-ghost use Rattle.detection.specs.Asked.{RoomFor};
+ghost use Rattle.detection.specs.Preconditions.{RoomFor};
 
 use crate::lawful::LawfulTable;
 use carriers::{Carrier, Kind, Message, Wait};

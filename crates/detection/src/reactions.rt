@@ -5,7 +5,7 @@ ghost use Rattle.carriers.specs.Messages.{receiver};
 ghost use Rattle.exchange.specs.Rules.{let_go, close_notice, spread as spreading, react as reacting};
 ghost use Rattle.exchange.specs.Runs.{reaction};
 ghost use Rattle.exchange.specs.Bounds.{Due, Awaited};
-ghost use Rattle.detection.specs.Asked.{RoomFor};
+ghost use Rattle.detection.specs.Preconditions.{RoomFor};
 
 use crate::lawful::LawfulTable;
 use crate::puts::{send, send_grants, send_notifies, send_on};

@@ -5,10 +5,10 @@ use Rattle.carriers.specs.declared.message.Kind.TheVariants.{Notify, Done, Grant
 use Rattle.carriers.specs.declared.message.Message.{Message}
 use Rattle.carriers.specs.declared.message.Wait.{Wait}
 use Rattle.rows.specs.Waiting.{Waiting, among, is_active}
-use Rattle.tables.specs.Closed.{count}
+use Rattle.tables.specs.ClosedSets.{count}
 use Rattle.tables.specs.Tables.{waiters}
 use Rattle.exchange.specs.declared.record.RunRecord.{RunRecord}
-use Rattle.exchange.proofs.Sound.{need, targets}
+use Rattle.exchange.proofs.LawfulRows.{need, targets}
 
 -- 1 for the same job, and 0 for two.
 abbrev pub same : ℕ → ℕ → ℕ

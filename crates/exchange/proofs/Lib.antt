@@ -1,14 +1,14 @@
 -- The lemmas, by topic; crates above may cite them.
 pub mod Sums
 pub mod Weights
-pub mod Sound
+pub mod LawfulRows
 pub mod Entries
 pub mod Reactions
-pub mod Kept
-pub mod Bounded
-pub mod Told
+pub mod DeliveryInvariants
+pub mod BoundLemmas
+pub mod EndedRuns
 pub mod Ranks
-pub mod Exact
-pub mod Ends
+pub mod ExactDeliveries
+pub mod Termination
 pub mod Rounds
 pub mod RoundsLemmas

@@ -13,9 +13,9 @@ use Rattle.exchange.specs.Records.{blank}
 use Rattle.exchange.specs.Rules.{spread}
 use Rattle.exchange.specs.Runs.{RunState, reaction, Begins, Delivers, Run, stays, delivers}
 use Rattle.exchange.specs.declared.record.RunRecord.{RunRecord}
-use Rattle.exchange.proofs.Kept.{Kept, delivery_keeps, is_a_job, notifier_is_notified, granter_is_free}
+use Rattle.exchange.proofs.DeliveryInvariants.{Kept, delivery_keeps, is_a_job, notifier_is_notified, granter_is_free}
 use Rattle.exchange.proofs.Reactions
-use Rattle.exchange.proofs.Sound.{Sound}
+use Rattle.exchange.proofs.LawfulRows.{Sound}
 
 -- Of two kinds of reaching a job: whether it was reached, on which wait, and who is on its other end.
 module _ (reached : RunRecord → Bool) (by : RunRecord → Option Wait) (sender : Wait → ℕ) where

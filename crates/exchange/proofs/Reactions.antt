@@ -11,7 +11,7 @@ use Rattle.rows.specs.Waiting.{Waiting, among}
 use Rattle.rows.specs.Law.{rising}
 use Rattle.tables.specs.Tables.{waiters}
 use Rattle.tables.proofs.Laws.{who_waits_is_a_job}
-use Rattle.tables.proofs.Waiters.{among_rising_is_not_below, waiters_are_who_waits, waiters_rise}
+use Rattle.tables.proofs.WaiterLemmas.{among_rising_is_not_below, waiters_are_who_waits, waiters_rise}
 use Rattle.carriers.specs.Messages.{receiver_on}
 use Rattle.exchange.specs.Messages.{on, message, notify_messages, grant_messages, put_on}
 use Rattle.exchange.specs.Records.{blank, with_granted, with_notified_by, freed}
@@ -19,7 +19,7 @@ use Rattle.exchange.specs.Rules.{Act, and_then, let_go, notify_all, spread, reac
 use Rattle.exchange.specs.Bounds.{Due}
 use Rattle.exchange.specs.declared.record.RunRecord.{RunRecord}
 use Rattle.exchange.proofs.Entries
-use Rattle.exchange.proofs.Sound.{need, targets, Sound, waiter_is_blocked, some_waiter, each_waiter_waits, each_is_among}
+use Rattle.exchange.proofs.LawfulRows.{need, targets, Sound, waiter_is_blocked, some_waiter, each_waiter_waits, each_is_among}
 use Rattle.exchange.proofs.Weights.{weigh, weigh_append, weigh_alike, weigh_put_on}
 
 -- A job that has not spread: if it is active, it has not let go either.

@@ -4,18 +4,18 @@ use Rattle.std.proofs.lemmas.Bool.{true≢false, cases_eq, or_cases, and_parts, 
 use Rattle.std.proofs.lemmas.Bool.Decides.{nat_tests}
 use Rattle.carriers.specs.declared.message.Message.{Message}
 use Rattle.rows.specs.Waiting.{Waiting, among}
-use Rattle.tables.specs.Closed.{count}
+use Rattle.tables.specs.ClosedSets.{count}
 use Rattle.tables.specs.Tables.{waiters}
 use Rattle.tables.proofs.Laws.{who_waits_is_a_job}
 use Rattle.exchange.specs.Records.{blank}
 use Rattle.exchange.specs.Runs.{RunState, Exchange}
-use Rattle.exchange.proofs.Bounded.{exchange_keeps}
+use Rattle.exchange.proofs.BoundLemmas.{exchange_keeps}
 use Rattle.exchange.proofs.Entries.{Spreading, Freeing}
-use Rattle.exchange.proofs.Exact.{twice_both, exact_count}
-use Rattle.exchange.proofs.Kept.{Kept}
-use Rattle.exchange.proofs.Sound.{Sound, need, targets, count_grows}
+use Rattle.exchange.proofs.ExactDeliveries.{twice_both, exact_count}
+use Rattle.exchange.proofs.DeliveryInvariants.{Kept}
+use Rattle.exchange.proofs.LawfulRows.{Sound, need, targets, count_grows}
 use Rattle.exchange.proofs.Sums.{total, total_same}
-use Rattle.exchange.proofs.Told.{target_is_notified, blocked_is_free}
+use Rattle.exchange.proofs.EndedRuns.{target_is_notified, blocked_is_free}
 use Rattle.exchange.proofs.Rounds.{some_below, each_below, all_in, reached, freed, spread_out, freed_out}
 
 some_below_tells : (n : ℕ) (p : ℕ → Bool) → some_below n p ≡ true → (w : ℕ) × (w < n) × (p w ≡ true)

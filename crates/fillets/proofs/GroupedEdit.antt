@@ -3,7 +3,7 @@ use Rattle.std.proofs.Common.{◌≡◌, ℕ, ◌+◌, Bool, true, false, cond, 
 use Rattle.std.proofs.lemmas.List.{set-set, set-get_or}
 use Rattle.std.proofs.lemmas.Bool.{eq-eqb, lt-ltb}
 use Rattle.groups.specs.State.{face, innermost, noted, merged, old_row, opened}
-use Rattle.groups.proofs.Stepped.{same_state}
+use Rattle.groups.proofs.RollBackLemmas.{same_state}
 use Rattle.book.specs.Calls.{edits, opens, keeps, cancels}
 use Rattle.book.specs.Rules.{BookState, book_state, Rules, changed, says, after}
 use Rattle.book.specs.Histories.{Called}

@@ -1,5 +1,5 @@
 pub mod ObeysLemmas
-pub mod Parts
-pub mod Shown
-pub mod Stepped
-pub mod Viewed
+pub mod TrailParts
+pub mod RepresentationLemmas
+pub mod RollBackLemmas
+pub mod ViewLemmas

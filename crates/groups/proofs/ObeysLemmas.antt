@@ -11,9 +11,9 @@ use Rattle.groups.specs.declared.store.Old.{Old}
 use Rattle.groups.specs.Limits.{row_count}
 use Rattle.groups.specs.Obeys.{olds_obey, groups_obey, Obeys}
 use Rattle.groups.specs.State.{State, old_row, noted, merged, unwound, restored, outside, fresh, written, kept, cancelled}
-use Rattle.groups.specs.Stubs.{ended_as}
-use Rattle.groups.specs.Views.{view}
-use Rattle.groups.proofs.Viewed.{length-restored}
+use Rattle.groups.specs.TicketIds.{ended_as}
+use Rattle.groups.specs.StateViews.{view}
+use Rattle.groups.proofs.ViewLemmas.{length-restored}
 
 module _ {P : Type 0} (law : ℕ → P → Bool) where
   olds-++ : (xs ys : List (Old P)) → olds_obey law xs ≡ true → olds_obey law ys ≡ true → olds_obey law (xs ++ ys) ≡ true

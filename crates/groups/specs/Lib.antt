@@ -1,8 +1,8 @@
 pub mod Limits
 pub mod State
 pub mod History
-pub mod Shows
+pub mod Representation
 pub mod Memory
 pub mod Obeys
-pub mod Views
-pub mod Stubs
+pub mod StateViews
+pub mod TicketIds

@@ -1,4 +1,4 @@
-pub mod Following
-pub mod Standing
-pub mod Calling
-pub mod StubAnswers
+pub mod SimulationLemmas
+pub mod BookBesideHistory
+pub mod CallLemmas
+pub mod TicketIdAnswers

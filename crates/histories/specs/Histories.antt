@@ -2,7 +2,7 @@
 use Rattle.std.specs.Prelude.{◌≡◌, ℕ, ◌+◌, ◌-◌, Bool, cond, length, replicate}
 use Rattle.groups.specs.State.{Face}
 use Rattle.groups.specs.History.{History, join, nest, merge, forget, history_face}
-use Rattle.groups.specs.Shows.{ShowsFrom}
+use Rattle.groups.specs.Representation.{ShowsFrom}
 use Rattle.histories.specs.Answers.{Answer, accepted}
 use Rattle.histories.specs.Calls.{Call, edits, opens, keeps, cancels}
 use Rattle.histories.specs.Rules.{Terms, BookState, terms, Rules, answer, says, after}

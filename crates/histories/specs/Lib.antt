@@ -2,4 +2,4 @@ pub mod Calls
 pub mod Answers
 pub mod Rules
 pub mod Histories
-pub mod Subjects
+pub mod Machines

@@ -6,8 +6,8 @@ use Rattle.histories.specs.Answers.{Answer}
 use Rattle.histories.specs.Calls.{Call}
 use Rattle.histories.specs.Rules.{Terms, BookState, Rules}
 use Rattle.histories.specs.Histories.{Called}
-use Rattle.histories.specs.Subjects.{of_book, of_history, View}
-use Rattle.histories.proofs.Standing.{Stands, same_rows, same_answer, same_view, stands_after, fresh_stands}
+use Rattle.histories.specs.Machines.{of_book, of_history, View}
+use Rattle.histories.proofs.BookBesideHistory.{Stands, same_rows, same_answer, same_view, stands_after, fresh_stands}
 use Rattle.lives.specs.Events.{Event, made, Does, calls, detects, happens, Life, begins, lives}
 use Rattle.lives.specs.Law.{LawOfLives, LawOfCallsAndDetections}
 

@@ -8,7 +8,7 @@ use Rattle.detection.specs.declared.verdict.Detection.{Detection}
 use Rattle.histories.specs.Answers.{Answer}
 use Rattle.histories.specs.Calls.{Call}
 use Rattle.histories.specs.Rules.{Rules}
-use Rattle.histories.specs.Subjects.{Subject, View, view_of}
+use Rattle.histories.specs.Machines.{Subject, View, view_of}
 
 -- A call and its answer; a detection, to which memory is lent, each time perhaps another: the event tells what it held before and after; or
 -- what only this kind of book knows, as a script.

@@ -2,7 +2,7 @@
 use Rattle.std.specs.Prelude.{◌≡◌, List}
 use Rattle.groups.specs.History.{History, begun}
 use Rattle.histories.specs.Rules.{Terms, BookState, Rules, fresh_book}
-use Rattle.histories.specs.Subjects.{of_book, of_history, View, view_of}
+use Rattle.histories.specs.Machines.{of_book, of_history, View, view_of}
 use Rattle.lives.specs.Events.{Event, Life}
 
 -- Whatever happens to a book from its creation on, whichever memory and carrier are lent each time: the same happens to the history

@@ -6,12 +6,12 @@ use Rattle.std.proofs.lemmas.Bool.{or_cases, cases_eq, cases_lt, cases_Bool, tru
 use Rattle.std.proofs.lemmas.Bool.Decides.{nat_tests}
 use Rattle.containers.specs.Held.{Held, vacant}
 use Rattle.rows.specs.Waiting.{Waiting, at, among}
-use Rattle.tables.specs.Closed.{count, Closed, Loosened}
+use Rattle.tables.specs.ClosedSets.{count, Closed, Loosened}
 use Rattle.rows.specs.Law.{rising}
 use Rattle.rows.proofs.Laws.{fits_shaped}
 use Rattle.tables.proofs.Grants.{closed_at}
 use Rattle.tables.proofs.Laws.{lawful_at, who_waits_is_a_job}
-use Rattle.tables.proofs.Waiters.{among_rising_is_not_below}
+use Rattle.tables.proofs.WaiterLemmas.{among_rising_is_not_below}
 use Rattle.reduction.specs.Marks.{loose, held, is_loose}
 use Rattle.tables.specs.Tables.{jobs_max, lawful}
 use Rattle.reduction.specs.Work.{Work, loose_count, looked_at, steps_left, NoneTwice, SoundMarks, Lacks, Settled, AtHand, CanBeLoosened, with_loose, one_less, lowered, CanBeLowered, Decided}

@@ -1,7 +1,7 @@
 -- What a reduction leaves.
 use Rattle.std.specs.Prelude.{◌≡◌, ℕ, ◌<◌, cond, ◌↔◌, List, length, drop, Some, None, Option, nat_lt, slice_index_or}
 use Rattle.rows.specs.Waiting.{Waiting}
-use Rattle.tables.specs.Closed.{Closed, Loosened}
+use Rattle.tables.specs.ClosedSets.{Closed, Loosened}
 use Rattle.tables.specs.Grants.{CanBeFreed}
 use Rattle.reduction.specs.Marks.{loose, held, is_loose}
 

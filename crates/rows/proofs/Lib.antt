@@ -4,7 +4,7 @@ mod Scans
 pub mod Counts
 pub mod Fits
 pub mod Places
-mod Stored
-pub mod Compared
+mod StoredRowLemmas
+pub mod ComparisonLemmas
 pub mod Laws
 pub mod ObeysLemmas

@@ -4,4 +4,4 @@ pub mod Law
 pub mod Obeys
 pub mod Changes
 pub mod Places
-pub mod Views
+pub mod StoredRows

@@ -5,7 +5,7 @@ ghost use Rattle.rows.specs.Waiting.{among};
 ghost use Rattle.rows.specs.Law.{targets_max, counts_fit, rising, row_fits, all_zero, places_fit};
 ghost use Rattle.rows.specs.Changes.{first_wrong};
 ghost use Rattle.rows.specs.Places.{Placed};
-ghost use Rattle.rows.specs.Views.{places_of};
+ghost use Rattle.rows.specs.StoredRows.{places_of};
 
 use crate::plain::TARGETS_MAX;
 use std::simd::cmp::SimdPartialEq;

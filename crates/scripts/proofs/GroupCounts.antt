@@ -7,8 +7,8 @@ use Rattle.histories.specs.Answers.{done, accepted, not_innermost}
 use Rattle.histories.specs.Calls.{Call, edits, opens, keeps, cancels}
 use Rattle.histories.specs.Histories.{answers, face_of, listed, depth_after}
 use Rattle.histories.specs.Rules.{Terms, terms, Rules, says, after, ending_answer}
-use Rattle.histories.specs.Subjects.{Subject, of_book, of_history}
-use Rattle.histories.proofs.Following.{called}
+use Rattle.histories.specs.Machines.{Subject, of_book, of_history}
+use Rattle.histories.proofs.SimulationLemmas.{called}
 
 -- No call changes the mark, an accepted one changes the depth as it says, and the innermost group can be cancelled.
 pub record CountsGroups {P E X : Type 0} (S : Subject P E X) : Type 0 where

@@ -1,6 +1,6 @@
-pub mod Working
+pub mod CommandLemmas
 pub mod Reading
-pub mod Simulated
+pub mod ScriptSimulation
 pub mod CommandBytes
 pub mod GroupCounts
 pub mod ScriptCalls

@@ -9,7 +9,7 @@ use Rattle.histories.specs.Calls.{cancels}
 use Rattle.scripts.specs.Commands.{Command, whole, head}
 use Rattle.scripts.specs.ScriptFaults.{refusal_of}
 use Rattle.scripts.specs.Scripts.{Progress, CarriesOut, Stops, Steps, Reads, carries, stops, strange, finishes, faults, steps, unreadable, cancel_groups}
-use Rattle.histories.specs.Subjects.{of_book}
+use Rattle.histories.specs.Machines.{of_book}
 use Rattle.store.specs.Plain.{plain}
 use Rattle.store.specs.Books.{PlainBook}
 

@@ -8,10 +8,10 @@ use Rattle.groups.specs.declared.store.Ending.TheVariants.{Keep, Cancel}
 use Rattle.histories.specs.Answers.{accepted}
 use Rattle.histories.specs.Calls.{Call, edits, opens, cancels, ends}
 use Rattle.histories.specs.Histories.{depth_after}
-use Rattle.histories.specs.Subjects.{Subject, of_book}
+use Rattle.histories.specs.Machines.{Subject, of_book}
 use Rattle.store.specs.Edits.{Edit}
 use Rattle.scripts.specs.Commands.{Command, makes, opening, ending, detecting, whole, head}
-use Rattle.scripts.specs.Lent.{Lent}
+use Rattle.scripts.specs.Workspace.{Lent}
 use Rattle.scripts.specs.Scripts.{Progress, CarriesOut, edited, opened, ended, answered, carries, stops, strange, Reads, finishes, faults, steps, cancel_groups, start, script_answer, Worked, Refused, Scripted}
 use Rattle.scripts.specs.Limits.{script_max}
 use Rattle.scripts.specs.ScriptCalls.{command_bytes, carried_bytes, script_commands, groups_after, EndsOwnGroups, command_calls, cancelling_calls, after_calls, AllAccepted, CountsAs}

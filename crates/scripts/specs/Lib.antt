@@ -1,9 +1,9 @@
 pub mod Limits
-pub mod Lent
+pub mod Workspace
 pub mod Commands
 pub mod ScriptFaults
 pub mod Scripts
 pub mod Reading
-pub mod Working
+pub mod RunningScripts
 pub mod ScriptCalls
 pub mod ScriptRuns

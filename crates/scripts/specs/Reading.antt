@@ -4,7 +4,7 @@ use Rattle.std.specs.Borrow.{MutBor}
 use Rattle.scripts.specs.Commands.{Command, makes, opening, ending, detecting, Head, whole}
 use Rattle.scripts.specs.ScriptFaults.{refusal_of}
 use Rattle.scripts.specs.Scripts.{unreadable}
-use Rattle.store.specs.Views.{edit_of}
+use Rattle.store.specs.Replies.{edit_of}
 use Rattle.scripts.specs.declared.command.Command.{Command as Told}
 use Rattle.scripts.specs.declared.command.Command.TheVariants.{Open, End, Detect, Edit}
 use Rattle.scripts.specs.declared.fault.ScriptFault.{ScriptFault}

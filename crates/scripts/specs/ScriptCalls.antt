@@ -5,7 +5,7 @@ use Rattle.rows.specs.Waiting.{Waiting}
 use Rattle.groups.specs.declared.store.Ending.TheVariants.{Keep, Cancel}
 use Rattle.histories.specs.Answers.{accepted}
 use Rattle.histories.specs.Calls.{Call, edits, opens, cancels, ends}
-use Rattle.histories.specs.Subjects.{Subject}
+use Rattle.histories.specs.Machines.{Subject}
 use Rattle.store.specs.Edits.{Edit, requests, grants}
 use Rattle.scripts.specs.Commands.{Command, makes, opening, ending, detecting}
 use Rattle.scripts.specs.declared.fault.StoppedScript.{StoppedScript}

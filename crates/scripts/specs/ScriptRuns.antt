@@ -4,9 +4,9 @@ use Rattle.groups.specs.History.{History}
 use Rattle.store.specs.Edits.{Edit}
 use Rattle.histories.specs.Rules.{terms}
 use Rattle.histories.specs.Histories.{Shows}
-use Rattle.scripts.specs.Lent.{Lent}
+use Rattle.scripts.specs.Workspace.{Lent}
 use Rattle.scripts.specs.Scripts.{Scripted}
-use Rattle.histories.specs.Subjects.{of_book, of_history}
+use Rattle.histories.specs.Machines.{of_book, of_history}
 use Rattle.scripts.specs.declared.fault.StoppedScript.{StoppedScript}
 use Rattle.scripts.specs.declared.fault.FinishedScript.{FinishedScript}
 use Rattle.store.specs.Plain.{plain}

@@ -13,9 +13,9 @@ use Rattle.histories.specs.Answers.{done, ticket, stopped}
 use Rattle.store.specs.Edits.{Edit}
 use Rattle.histories.specs.Calls.{Call, edits, opens, cancels, ends}
 use Rattle.scripts.specs.Commands.{Command, makes, opening, ending, detecting, Head, over, unknown, cut, whole, head}
-use Rattle.scripts.specs.Lent.{Lent}
+use Rattle.scripts.specs.Workspace.{Lent}
 use Rattle.scripts.specs.Limits.{script_max, detection_bytes}
-use Rattle.histories.specs.Subjects.{Subject}
+use Rattle.histories.specs.Machines.{Subject}
 use Rattle.scripts.specs.declared.fault.ScriptFault.{ScriptFault}
 use Rattle.scripts.specs.ScriptFaults.{LayeredRefusal, refusal_of, by_script, by_book, by_detection}
 use Rattle.scripts.specs.declared.fault.StoppedScript.{StoppedScript}

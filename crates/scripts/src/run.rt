@@ -3,8 +3,8 @@ ghost use Rattle.std.specs.Prelude.{◌≡◌, ◌≤◌, ◌-◌, length};
 ghost use Rattle.scripts.specs.Scripts.{cancel_groups as cancelling};
 ghost use Rattle.scripts.specs.ScriptCalls.{CountsAs};
 ghost use Rattle.scripts.specs.ScriptRuns.{RanScript, script_written};
-ghost use Rattle.scripts.specs.Lent.{lent};
-ghost use Rattle.histories.specs.Subjects.{of_book};
+ghost use Rattle.scripts.specs.Workspace.{lent};
+ghost use Rattle.histories.specs.Machines.{of_book};
 ghost use Rattle.store.specs.Plain.{plain};
 ghost use Rattle.histories.specs.Rules.{SameGroups};
 

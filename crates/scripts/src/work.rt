@@ -4,8 +4,8 @@ ghost use Rattle.std.specs.Result.{result_err};
 ghost use Rattle.scripts.specs.Commands.{detecting};
 ghost use Rattle.scripts.specs.Reading.{command_of};
 ghost use Rattle.scripts.specs.Scripts.{Steps, Reads};
-ghost use Rattle.histories.specs.Subjects.{of_book};
-ghost use Rattle.scripts.specs.Working.{far, CarriedOut, Within};
+ghost use Rattle.histories.specs.Machines.{of_book};
+ghost use Rattle.scripts.specs.RunningScripts.{far, CarriedOut, Within};
 ghost use Rattle.store.specs.Plain.{plain};
 
 use crate::answer::{DETECTION_BYTES, answer_bytes};

@@ -1,2 +1,2 @@
 -- The lemmas, by topic.
-mod Told
+mod TableLines

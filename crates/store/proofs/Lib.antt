@@ -1,3 +1,3 @@
-pub mod Told
-pub mod Lawful
-pub mod Seen
+pub mod AnswerLemmas
+pub mod LawfulMemory
+pub mod RowViews

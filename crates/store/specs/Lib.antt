@@ -4,6 +4,6 @@ pub mod EditAnswers
 pub mod Plain
 pub mod Creation
 pub mod Faults
-pub mod Views
+pub mod Replies
 pub mod Memory
 pub mod Snapshots

@@ -1,7 +1,7 @@
 -- How the memory of a book stands for its state.
 use Rattle.std.specs.Prelude.{ℕ, ◌≤◌}
 use Rattle.rows.specs.declared.plain.PlainRow.{PlainRow}
-use Rattle.rows.specs.Views.{plain_fits}
+use Rattle.rows.specs.StoredRows.{plain_fits}
 use Rattle.tables.specs.Tables.{jobs_max}
 use Rattle.groups.specs.Obeys.{Obeys}
 use Rattle.groups.specs.State.{State}

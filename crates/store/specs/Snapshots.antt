@@ -1,8 +1,8 @@
 -- What a snapshot of a book shows.
 use Rattle.std.specs.Prelude.{map, take}
 use Rattle.rows.specs.Waiting.{Waiting}
-use Rattle.rows.specs.Views.{waiting}
-use Rattle.histories.specs.Subjects.{View}
+use Rattle.rows.specs.StoredRows.{waiting}
+use Rattle.histories.specs.Machines.{View}
 use Rattle.store.specs.declared.snapshot.Snapshot.{Snapshot}
 
 -- The rows of its jobs, and the depth.

@@ -3,7 +3,7 @@ mod shows;
 
 ghost use Rattle.std.specs.Prelude.{◌≡◌, ◌≤◌, true};
 ghost use Rattle.rows.specs.Obeys.{rows_obey};
-ghost use Rattle.rows.specs.Views.{plain_fits};
+ghost use Rattle.rows.specs.StoredRows.{plain_fits};
 ghost use Rattle.tables.specs.Tables.{jobs_max};
 
 use groups::ROWS;

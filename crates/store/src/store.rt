@@ -15,8 +15,8 @@ pub struct Store<'a> {
 }
 
 impl<'a> Model for Store<'a> {
-    ghost use Rattle.rows.specs.Views.{waiting};
-    ghost use Rattle.groups.specs.Views.{view as seen};
+    ghost use Rattle.rows.specs.StoredRows.{waiting};
+    ghost use Rattle.groups.specs.StateViews.{view as seen};
     ghost use Rattle.store.specs.Books.{PlainBook, book_of};
     ghost use Rattle.store.specs.Memory.{Lawful};
 

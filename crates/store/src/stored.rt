@@ -1,6 +1,6 @@
 // What a stored row tells; where there is none, what an idle one does.
 ghost use Rattle.std.specs.Prelude.{◌≡◌};
-ghost use Rattle.rows.specs.Views.{waiting_or_idle};
+ghost use Rattle.rows.specs.StoredRows.{waiting_or_idle};
 
 use rows::PlainRow;
 

@@ -25,6 +25,9 @@ fn index_finds_waiters_in_every_word(rt: HostRuntime) {
     assert_eq!(rt; indexed.waiter(2, 1), Some(63));
     assert_eq!(rt; indexed.waiters_in_word(0, 0), 1 << 3 | 1 << 63);
     assert_eq!(rt; indexed.waiters_in_word(0, 2), 1 << 2);
-    assert_eq!(rt; indexed.waiters_in_word(0, 4) | indexed.waiters_in_word(256, 0), 0);
+    assert_eq!(rt;
+        indexed.waiters_in_word(0, 4) | indexed.waiters_in_word(256, 0),
+        0
+    );
     assert_eq!(rt; indexed.need(255), 1);
 }

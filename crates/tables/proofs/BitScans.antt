@@ -9,7 +9,7 @@ use Rattle.std.proofs.Common.{Some, None}
 use Rattle.rows.specs.Waiting.{Waiting, at, among}
 use Rattle.tables.specs.Tables.{waiters, first_from}
 use Rattle.tables.proofs.Laws.{who_waits_is_a_job, target_below}
-use Rattle.tables.proofs.Waiters.{first_who_waits_is_the_first_waiter}
+use Rattle.tables.proofs.WaiterLemmas.{first_who_waits_is_the_first_waiter}
 use Rattle.tables.specs.BitMatrix.{MarksWaits, ShowsWaiters, word_end}
 
 -- The bits of a shifted word.

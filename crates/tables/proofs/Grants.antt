@@ -9,7 +9,7 @@ use Rattle.std.proofs.lemmas.Bool.Decides.{nat_tests}
 use Rattle.rows.specs.Waiting.{Waiting, idle, at, among}
 use Rattle.rows.specs.Changes.{without, granted}
 use Rattle.tables.specs.Tables.{waits}
-use Rattle.tables.specs.Closed.{count, Closed, Loosened}
+use Rattle.tables.specs.ClosedSets.{count, Closed, Loosened}
 use Rattle.tables.specs.Grants.{Grant, Allowed, granted_rows, rows_after, LawfulGrants, CanBeFreed, LoosenedCanBeFreed}
 use Rattle.tables.proofs.Laws.{who_waits_is_a_job}
 

@@ -1,9 +1,9 @@
 -- The lemmas, by topic; crates above may cite them.
-pub mod Targets
+pub mod TargetLemmas
 pub mod Laws
-pub mod Waiters
+pub mod WaiterLemmas
 pub mod Grants
-pub mod Left
+pub mod WalksLeft
 pub mod Sizes
 mod BitMatrixLemmas
 mod BitScans

@@ -8,7 +8,7 @@ use Rattle.rows.specs.Law.{targets_max}
 use Rattle.rows.proofs.Laws.{fits_counts}
 use Rattle.tables.specs.Tables.{jobs_max, waits_max, waiters, waits, IsTable}
 use Rattle.tables.proofs.Laws.{lawful_at}
-use Rattle.tables.proofs.Waiters.{waiters_from_are_few}
+use Rattle.tables.proofs.WaiterLemmas.{waiters_from_are_few}
 
 -- The waits of some first rows, with one row more, and of all rows.
 pub waits_with_one_row_more : (rows : List Waiting) (job : ℕ) → job < length rows

@@ -2,7 +2,7 @@
 use Rattle.std.specs.Prelude.{◌≡◌, ℕ, ◌<◌, true, ◌↔◌, List, [], ◌∷◌, length, slice_set}
 use Rattle.rows.specs.Waiting.{Waiting, at, among}
 use Rattle.rows.specs.Changes.{granted}
-use Rattle.tables.specs.Closed.{Loosened}
+use Rattle.tables.specs.ClosedSets.{Loosened}
 
 -- A grant: who grants, and who waits.
 pub record Grant : Type 0 where

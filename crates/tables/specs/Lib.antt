@@ -1,5 +1,5 @@
 pub mod Tables
-pub mod Closed
+pub mod ClosedSets
 pub mod Grants
 pub mod Walks
 pub mod BitMatrix

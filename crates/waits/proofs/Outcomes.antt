@@ -1,16 +1,16 @@
 -- What comes of a script on a new book.
 use Rattle.std.proofs.Common.{◌≡◌, true, List, ℕ, replicate, Result, Ok, Err, is_ok, OnOk, subst}
 use Rattle.groups.specs.History.{begun}
-use Rattle.carriers.specs.Parts.{new_carrier}
+use Rattle.carriers.specs.CountedCarriers.{new_carrier}
 use Rattle.carriers.specs.Meaning.{Carried}
 use Rattle.exchange.specs.Records.{blank}
 use Rattle.exchange.specs.declared.record.RunRecord.{RunRecord}
 use Rattle.book.specs.Rules.{terms}
 use Rattle.book.specs.Histories.{Shows}
 use Rattle.book.specs.ScriptRuns.{RanScript}
-use Rattle.book.specs.Lent.{lent}
+use Rattle.book.specs.Workspace.{lent}
 use Rattle.book.specs.Scripts.{Scripted}
-use Rattle.book.specs.Subjects.{of_history}
+use Rattle.book.specs.Machines.{of_history}
 use Rattle.book.specs.StoppedScript.{StoppedScript}
 use Rattle.book.specs.FinishedScript.{FinishedScript}
 use Rattle.waits.specs.Outcome.{ComesOut}

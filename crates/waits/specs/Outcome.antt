@@ -1,6 +1,6 @@
 -- What comes of a script that the program runs.
 use Rattle.std.specs.Prelude.{ℕ, ◌*◌, List, replicate, Result}
-use Rattle.carriers.specs.Parts.{new_carrier}
+use Rattle.carriers.specs.CountedCarriers.{new_carrier}
 use Rattle.exchange.specs.Records.{blank}
 use Rattle.exchange.specs.declared.record.RunRecord.{RunRecord}
 use Rattle.carriers.specs.Meaning.{Carried}
@@ -8,8 +8,8 @@ use Rattle.groups.specs.History.{History, begun}
 use Rattle.book.specs.Edits.{Edit}
 use Rattle.book.specs.Rules.{Terms}
 use Rattle.book.specs.Scripts.{Scripted}
-use Rattle.book.specs.Lent.{lent}
-use Rattle.book.specs.Subjects.{of_history}
+use Rattle.book.specs.Workspace.{lent}
+use Rattle.book.specs.Machines.{of_history}
 use Rattle.book.specs.StoppedScript.{StoppedScript}
 use Rattle.book.specs.FinishedScript.{FinishedScript}
 use Rattle.tables.specs.Tables.{jobs_max, waits_max}

@@ -2,12 +2,12 @@
 ghost use Rattle.std.specs.Prelude.{◌≡◌, ◌≤◌, length, take, drop, is_err, nat_lt, IfOk, IfErr};
 ghost use Rattle.book.specs.Law.{LawOfPlainBooks, GrantsAreAllowed};
 ghost use Rattle.book.specs.Moments.{Lived, written_by};
-ghost use Rattle.book.specs.Performing.{Performed};
-ghost use Rattle.scripts.specs.Lent.{lent};
+ghost use Rattle.book.specs.LifeSteps.{Performed};
+ghost use Rattle.scripts.specs.Workspace.{lent};
 ghost use Rattle.histories.specs.Calls.{edits, opens, ends};
 ghost use Rattle.histories.specs.Histories.{Called};
 ghost use Rattle.store.specs.Plain.{plain};
-ghost use Rattle.store.specs.Views.{told, told_stub, told_ending_by, edit_of};
+ghost use Rattle.store.specs.Replies.{told, told_stub, told_ending_by, edit_of};
 
 use crate::client::Book;
 use crate::life::call::{Answer, Call};

@@ -3,7 +3,7 @@ ghost use Rattle.std.specs.Prelude.{◌≡◌, ◌+◌, ◌≤◌, not, length, 
 ghost use Rattle.containers.specs.Held.{holding};
 ghost use Rattle.groups.specs.Limits.{row_count, depth_max};
 ghost use Rattle.groups.specs.State.{face, full, can_open, fresh, written, opened, kept, cancelled, unwound, old_row, noting};
-ghost use Rattle.groups.specs.Stubs.{fits, ended_as};
+ghost use Rattle.groups.specs.TicketIds.{fits, ended_as};
 
 use crate::store::{Ending, Groups, Old, ROWS, Stub, TRAIL_MAX, TrailFull};
 use arrayvec::ArrayVec;

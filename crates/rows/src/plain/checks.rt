@@ -3,7 +3,7 @@ ghost use Rattle.std.specs.Prelude.{◌≡◌};
 ghost use Rattle.std.specs.Cmp.Rules.{comparing};
 ghost use Rattle.std.proofs.Common.{rules};
 ghost use Rattle.rows.specs.Waiting.{idle};
-ghost use Rattle.rows.specs.Views.{stored_as, waiting_of, says_same, Checked, StoredWhole};
+ghost use Rattle.rows.specs.StoredRows.{stored_as, waiting_of, says_same, Checked, StoredWhole};
 
 use crate::parts::{counts_fit, places_fit, rises};
 use crate::plain::{LawBroken, PlainRow, Row, TARGETS_MAX};

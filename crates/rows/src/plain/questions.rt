@@ -1,7 +1,7 @@
 // What a row tells.
 ghost use Rattle.std.specs.Prelude.{◌≡◌};
 ghost use Rattle.rows.specs.Waiting.{among};
-ghost use Rattle.rows.specs.Views.{waiting, waiting_of};
+ghost use Rattle.rows.specs.StoredRows.{waiting, waiting_of};
 
 use crate::parts::stands_somewhere;
 use crate::plain::{PlainRow, Row};

@@ -1,6 +1,6 @@
 // What a snapshot shows.
 ghost use Rattle.std.specs.Prelude.{◌≡◌, true, [], map};
-ghost use Rattle.rows.specs.Views.{stored_as, all_sound, waiting_or_idle};
+ghost use Rattle.rows.specs.StoredRows.{stored_as, all_sound, waiting_or_idle};
 ghost use Rattle.rows.specs.Waiting.{at};
 ghost use Rattle.store.specs.Snapshots.{snapshot_view};
 

@@ -1,7 +1,7 @@
 // Creation, and the five calls.
 ghost use Rattle.std.specs.Prelude.{◌≡◌, ◌<◌, ◌≤◌, ◌-◌, true, length, if◌then◌else◌};
 ghost use Rattle.rows.specs.Law.{row_fits};
-ghost use Rattle.rows.specs.Views.{waiting_of};
+ghost use Rattle.rows.specs.StoredRows.{waiting_of};
 ghost use Rattle.groups.specs.State.{face, full, written};
 ghost use Rattle.groups.specs.History.{begun};
 ghost use Rattle.store.specs.declared.fault.BookFault.TheVariants.{TrailFull};
@@ -12,7 +12,7 @@ ghost use Rattle.store.specs.EditAnswers.{refusal};
 ghost use Rattle.histories.specs.Histories.{Shows, Called};
 ghost use Rattle.store.specs.Creation.{created, new_book};
 ghost use Rattle.tables.specs.Tables.{jobs_max};
-ghost use Rattle.store.specs.Views.{told, told_stub, told_ending_by, edit_of};
+ghost use Rattle.store.specs.Replies.{told, told_stub, told_ending_by, edit_of};
 ghost use Rattle.store.specs.Plain.{plain};
 ghost use Rattle.histories.specs.Rules.{book_state, says, after};
 

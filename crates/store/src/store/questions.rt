@@ -2,10 +2,10 @@
 ghost use Rattle.std.specs.Prelude.{◌≡◌, ◌≤◌, true, length, IfSome};
 ghost use Rattle.rows.specs.Waiting.{at};
 ghost use Rattle.rows.specs.Law.{sound};
-ghost use Rattle.rows.specs.Views.{waiting_of, waiting_or_idle};
+ghost use Rattle.rows.specs.StoredRows.{waiting_of, waiting_or_idle};
 ghost use Rattle.groups.specs.Limits.{depth_max};
 ghost use Rattle.store.specs.Snapshots.{snapshot_view};
-ghost use Rattle.histories.specs.Subjects.{of_book, view_of};
+ghost use Rattle.histories.specs.Machines.{of_book, view_of};
 ghost use Rattle.store.specs.Plain.{plain};
 
 use crate::snapshot::Snapshot;

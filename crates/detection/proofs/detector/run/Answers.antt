@@ -3,8 +3,8 @@ use Rattle.std.proofs.Common.{◌≡◌, ℕ, ◌*◌, ◌≤◌, length, replic
 use Rattle.tables.specs.Tables.{waits}
 use Rattle.exchange.specs.Records.{blank}
 use Rattle.exchange.specs.declared.record.RunRecord.{RunRecord}
-use Rattle.detection.proofs.Going.{within_bounds, spread_has_room, run_begins, taken_message_is_awaited, puts_have_room, run_goes_on, fewer_deliveries_are_left}
-use Rattle.detection.proofs.Finishes.{run_is_finished}
+use Rattle.detection.proofs.RunInvariant.{within_bounds, spread_has_room, run_begins, taken_message_is_awaited, puts_have_room, run_goes_on, fewer_deliveries_are_left}
+use Rattle.detection.proofs.FinishedRuns.{run_is_finished}
 use Rattle.detection.proofs.detector.run.Given as given
 use Rattle.detection.proofs.detector.run.Goals as goal
 use Rattle.detection.proofs.detector.run.Goals.{After-fill}

@@ -1,7 +1,7 @@
 -- The records and the carrier are those of a run; each turn is one delivery nearer to the last that there can be.
 use Rattle.std.proofs.Common.{◌-◌, ◌*◌}
 use Rattle.tables.specs.Tables.{waits}
-use Rattle.detection.proofs.Going.{Going, growth}
+use Rattle.detection.proofs.RunInvariant.{Going, growth}
 use Rattle.detection.proofs.detector.run.Given as goal
 
 abbrev pub invariant-loop-message : goal.invariant-loop-message

@@ -1,9 +1,9 @@
 -- From waiter to waiter.
 use Rattle.std.proofs.Common.{sym, ◌∙◌, arith}
 use Rattle.tables.proofs.Laws.{who_waits_is_a_job}
-use Rattle.tables.proofs.Waiters.{waiters_are_who_waits}
+use Rattle.tables.proofs.WaiterLemmas.{waiters_are_who_waits}
 use Rattle.tables.proofs.Sizes.{waiters_are_few}
-use Rattle.detection.proofs.Walked.{next_is_within, next_is_among, next_has_room, next_is_sent_too}
+use Rattle.detection.proofs.SendLemmas.{next_is_within, next_is_among, next_has_room, next_is_sent_too}
 use Rattle.detection.proofs.puts.send_grants.Goals as goal
 
 pub overflow_cast-wait : goal.overflow_cast-wait

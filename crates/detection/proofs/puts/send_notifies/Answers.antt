@@ -1,7 +1,7 @@
 -- From target to target.
 use Rattle.std.proofs.Common.{arith}
 use Rattle.tables.proofs.Sizes.{targets_are_few}
-use Rattle.detection.proofs.Walked.{none_is_sent_at_first, next_is_within, next_has_room, next_is_sent_too}
+use Rattle.detection.proofs.SendLemmas.{none_is_sent_at_first, next_is_within, next_has_room, next_is_sent_too}
 use Rattle.detection.proofs.puts.send_notifies.Goals as goal
 
 pub loop-target-init : goal.loop-target-init

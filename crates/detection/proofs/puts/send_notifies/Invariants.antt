@@ -4,7 +4,7 @@ use Rattle.carriers.specs.declared.message.Kind.TheVariants.{Notify}
 use Rattle.rows.specs.Waiting.{at}
 use Rattle.tables.specs.Walks.{targets_left}
 use Rattle.exchange.specs.Messages.{message, on}
-use Rattle.detection.proofs.Walked.{SentFront}
+use Rattle.detection.proofs.SendLemmas.{SentFront}
 use Rattle.detection.proofs.puts.send_notifies.Given as goal
 
 abbrev pub invariant-loop-target : goal.invariant-loop-target

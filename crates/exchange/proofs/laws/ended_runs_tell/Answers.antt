@@ -1,4 +1,4 @@
-use Rattle.exchange.proofs.Told.{ended_runs_tell}
+use Rattle.exchange.proofs.EndedRuns.{ended_runs_tell}
 use Rattle.exchange.proofs.laws.ended_runs_tell.Goals as goal
 
 pub returns : goal.returns

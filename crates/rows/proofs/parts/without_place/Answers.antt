@@ -1,6 +1,6 @@
 -- The targets before the place, then those after it, and then zeros.
 use Rattle.std.proofs.Common.{◌+◌, ◌-◌, length, refl, arith}
-use Rattle.rows.proofs.Stored.{stored_without_one}
+use Rattle.rows.proofs.StoredRowLemmas.{stored_without_one}
 use Rattle.rows.proofs.parts.without_place.Goals as goal
 
 pub returns : goal.returns

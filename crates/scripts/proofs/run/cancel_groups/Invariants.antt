@@ -1,6 +1,6 @@
 use Rattle.std.proofs.Common.{◌≡◌, ◌-◌, length}
 use Rattle.scripts.specs.Scripts.{cancel_groups as cancelling}
-use Rattle.histories.specs.Subjects.{of_book}
+use Rattle.histories.specs.Machines.{of_book}
 use Rattle.scripts.proofs.run.cancel_groups.Given as goal
 use Rattle.store.specs.Plain.{plain}
 

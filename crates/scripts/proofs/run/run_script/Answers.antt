@@ -1,7 +1,7 @@
 use Rattle.std.proofs.Common.{refl, Some, None}
-use Rattle.scripts.specs.Working.{far}
+use Rattle.scripts.specs.RunningScripts.{far}
 use Rattle.scripts.proofs.ScriptCalls.{ran_counts}
-use Rattle.scripts.proofs.Simulated.{worked_ran}
+use Rattle.scripts.proofs.ScriptSimulation.{worked_ran}
 use Rattle.scripts.proofs.run.run_script.Goals as goal
 
 pub returns-in-Ok-clause-ran : goal.returns-in-Ok-clause-ran

@@ -1,5 +1,5 @@
 use Rattle.std.proofs.Common.{◌≡◌, ◌+◌, ◌-◌, length}
-use Rattle.scripts.specs.Working.{far, Within}
+use Rattle.scripts.specs.RunningScripts.{far, Within}
 use Rattle.scripts.proofs.Reading.{Underway}
 use Rattle.scripts.proofs.work.work.Given as goal
 

@@ -1,9 +1,9 @@
 use Rattle.std.proofs.Common.{◌≡◌, ◌<◌, length, refl, ◌∙◌, ap, arith}
 use Rattle.std.proofs.lemmas.List.{take_more, take_more_set, take_all, take_rest, length-set, drop-set-lt}
 use Rattle.book.specs.declared.life.call.Call.TheVariants.{Open}
-use Rattle.histories.specs.Subjects.{of_book, view_of}
-use Rattle.book.proofs.Alive.{alive_first, alive_next, alive_lived, behind_all}
-use Rattle.book.proofs.Granting.{grants_are_allowed}
+use Rattle.histories.specs.Machines.{of_book, view_of}
+use Rattle.book.proofs.LifeInvariant.{alive_first, alive_next, alive_lived, behind_all}
+use Rattle.book.proofs.GrantLemmas.{grants_are_allowed}
 use Rattle.book.proofs.Lives.{law_of_plain_books}
 use Rattle.book.proofs.life.whole.live.Goals as goal
 use Rattle.store.specs.Plain.{plain}

@@ -1,6 +1,6 @@
 use Rattle.std.proofs.Common.{◌≡◌, ◌≤◌, length, take, drop}
-use Rattle.scripts.specs.Lent.{lent}
-use Rattle.book.proofs.Alive.{Alive}
+use Rattle.scripts.specs.Workspace.{lent}
+use Rattle.book.proofs.LifeInvariant.{Alive}
 use Rattle.book.proofs.life.whole.live.Given as goal
 
 abbrev pub invariant-loop-place : goal.invariant-loop-place

@@ -1,6 +1,6 @@
 -- The rows that the check takes, or none, are those of a chart.
 use Rattle.std.proofs.Common.{refl}
-use Rattle.chart.proofs.Taken.{checked_rows_are_a_chart}
+use Rattle.chart.proofs.CheckedCharts.{checked_rows_are_a_chart}
 use Rattle.chart.proofs.chart.Chart.new.Goals as goal
 
 pub invariant_of-result : goal.invariant_of-result

@@ -2,7 +2,7 @@
 use Rattle.std.proofs.Common.{◌≡◌, false, length, Some, None, arith}
 use Rattle.std.proofs.lemmas.Bool.Decides.{nat_tests}
 use Rattle.chart.specs.Check.{wrong_length}
-use Rattle.chart.proofs.Taken.{told_by_the_scan}
+use Rattle.chart.proofs.CheckedCharts.{told_by_the_scan}
 use Rattle.chart.proofs.chart.checks.checked_rows.Goals as goal
 
 pub returns-in-Some-clause-counted : goal.returns-in-Some-clause-counted

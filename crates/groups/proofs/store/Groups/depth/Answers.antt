@@ -1,4 +1,4 @@
-use Rattle.groups.proofs.Parts.{depth_of}
+use Rattle.groups.proofs.TrailParts.{depth_of}
 use Rattle.groups.proofs.store.Groups.depth.Goals as goal
 
 pub returns-clause-value : goal.returns-clause-value

@@ -1,7 +1,7 @@
 use Rattle.std.proofs.Common.{refl, arith}
 use Rattle.std.proofs.lemmas.Bool.Decides.{nat_tests}
-use Rattle.groups.proofs.Parts.{kept_parts}
-use Rattle.groups.proofs.Stepped.{same_state}
+use Rattle.groups.proofs.TrailParts.{kept_parts}
+use Rattle.groups.proofs.RollBackLemmas.{same_state}
 use Rattle.groups.proofs.store.Groups.keep_innermost.Goals as goal
 
 pub invariant_of-self-else-is_empty : goal.invariant_of-self-else-is_empty

@@ -1,8 +1,8 @@
 use Rattle.std.proofs.Common.{◌≡◌, get_or, sym, refl, ap, ◌∙◌, arith}
 use Rattle.std.proofs.lemmas.Bool.Decides.{nat_tests}
 use Rattle.groups.specs.State.{State}
-use Rattle.groups.proofs.Parts.{depth_of, used_of, noted_parts}
-use Rattle.groups.proofs.Stepped.{same_state}
+use Rattle.groups.proofs.TrailParts.{depth_of, used_of, noted_parts}
+use Rattle.groups.proofs.RollBackLemmas.{same_state}
 use Rattle.groups.proofs.store.Groups.note.Goals as goal
 
 pub returns-then-len-ge-TRAIL_MAX-clause-value : goal.returns-then-len-ge-TRAIL_MAX-clause-value

@@ -1,6 +1,6 @@
 use Rattle.std.proofs.Common.{arith}
 use Rattle.std.proofs.lemmas.Bool.Decides.{nat_tests}
-use Rattle.groups.proofs.Parts.{depth_of}
+use Rattle.groups.proofs.TrailParts.{depth_of}
 use Rattle.groups.proofs.store.Groups.open.Goals as goal
 
 pub returns-then-is_full : goal.returns-then-is_full

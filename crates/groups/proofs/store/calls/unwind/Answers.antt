@@ -1,5 +1,5 @@
 use Rattle.std.proofs.Common.{◌∙◌, arith}
-use Rattle.groups.proofs.Stepped.{put_back}
+use Rattle.groups.proofs.RollBackLemmas.{put_back}
 use Rattle.groups.proofs.store.calls.unwind.Goals as goal
 
 pub loop-old-preserved : goal.loop-old-preserved

@@ -1,6 +1,6 @@
 -- What a request stores is sound.
 use Rattle.std.proofs.Common.{sym}
-use Rattle.rows.proofs.Stored.{request_stores_sound}
+use Rattle.rows.proofs.StoredRowLemmas.{request_stores_sound}
 use Rattle.rows.proofs.plain.Row.request.Goals as goal
 
 pub invariant_of-result : goal.invariant_of-result

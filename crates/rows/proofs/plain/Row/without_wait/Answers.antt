@@ -1,6 +1,6 @@
 -- What is stored without a wait is sound.
 use Rattle.std.proofs.Common.{length, ap, arith}
-use Rattle.rows.proofs.Stored.{sound_uses_shaped, without_wait_stores_sound}
+use Rattle.rows.proofs.StoredRowLemmas.{sound_uses_shaped, without_wait_stores_sound}
 use Rattle.rows.proofs.plain.Row.without_wait.Goals as goal
 
 pub invariant_of-result : goal.invariant_of-result

@@ -1,8 +1,8 @@
 -- An idle row obeys the law of each job.
 use Rattle.std.proofs.Common.{arith}
-use Rattle.rows.specs.Views.{plain_fits}
+use Rattle.rows.specs.StoredRows.{plain_fits}
 use Rattle.rows.proofs.ObeysLemmas.{replicate_obeys}
-use Rattle.store.proofs.Lawful.{idle_row_fits}
+use Rattle.store.proofs.LawfulMemory.{idle_row_fits}
 use Rattle.store.proofs.snapshot.Snapshot.blank.Goals as goal
 
 pub invariant_of-result : goal.invariant_of-result

@@ -1,7 +1,7 @@
 -- The first of rows that obey the law are sound, and so stored as what they say decides.
 use Rattle.std.proofs.Common.{take}
-use Rattle.rows.proofs.Compared.{all_sound_are_stored_as, first_ones_are_sound}
-use Rattle.store.proofs.Seen.{obeying_rows_are_sound}
+use Rattle.rows.proofs.ComparisonLemmas.{all_sound_are_stored_as, first_ones_are_sound}
+use Rattle.store.proofs.RowViews.{obeying_rows_are_sound}
 use Rattle.store.proofs.snapshot.Snapshot.rows.Goals as goal
 
 pub returns-clause-value : goal.returns-clause-value

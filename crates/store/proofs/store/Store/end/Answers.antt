@@ -1,12 +1,12 @@
 use Rattle.std.proofs.Common.{◌≡◌, refl}
-use Rattle.rows.specs.Views.{waiting}
-use Rattle.groups.specs.Stubs.{fits}
-use Rattle.histories.proofs.StubAnswers.{ending_answer_of}
-use Rattle.histories.proofs.Calling.{end_called}
+use Rattle.rows.specs.StoredRows.{waiting}
+use Rattle.groups.specs.TicketIds.{fits}
+use Rattle.histories.proofs.TicketIdAnswers.{ending_answer_of}
+use Rattle.histories.proofs.CallLemmas.{end_call_step}
 use Rattle.store.specs.Plain.{plain}
-use Rattle.store.specs.Views.{told_ending_by}
-use Rattle.store.proofs.Lawful.{lawful_if, ended_lawful}
-use Rattle.store.proofs.Seen.{wide}
+use Rattle.store.specs.Replies.{told_ending_by}
+use Rattle.store.proofs.LawfulMemory.{lawful_if, ended_lawful}
+use Rattle.store.proofs.RowViews.{wide}
 use Rattle.store.proofs.store.Store.end.Goals as goal
 use Rattle.store.proofs.store.Store.end.Goals.{in-Ok, in-Err}
 
@@ -21,4 +21,4 @@ returns c =
     let e = c.end.ensures in
     let told : told_ending_by c.match-end.result ≡ ending_answer_of c.end.result =
     elim c.match-end.branch [ in-Ok w ↦ rw (w.result-is, w.in-Ok.is) refl | in-Err w ↦ rw (w.result-is, w.in-Err.is) refl ] in
-    rw (← c.self.view_is, told) (end_called b.jobs waiting plain tt b.groups c.end.new.self (wide b.jobs b.groups c.self.invariant) c.args.ending c.args.stub c.end.result e.value e.after)
+    rw (← c.self.view_is, told) (end_call_step b.jobs waiting plain tt b.groups c.end.new.self (wide b.jobs b.groups c.self.invariant) c.args.ending c.args.stub c.end.result e.value e.after)

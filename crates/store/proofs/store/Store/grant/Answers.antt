@@ -1,8 +1,8 @@
 use Rattle.std.proofs.Common.{ap, ◌∙◌, arith}
 use Rattle.rows.specs.Waiting.{Waiting}
-use Rattle.rows.specs.Views.{waiting_of, granted_by}
+use Rattle.rows.specs.StoredRows.{waiting_of, granted_by}
 use Rattle.store.specs.declared.fault.BookFault.TheVariants.{NoSuchWait}
-use Rattle.store.proofs.Told.{row_there, no_jobs, is_stuck, no_wait, grant_called, granted_fits}
+use Rattle.store.proofs.AnswerLemmas.{row_there, no_jobs, is_stuck, no_wait, grant_call_step, granted_fits}
 use Rattle.store.proofs.store.Store.grant.Goals as goal
 
 pub returns-then-granter-jobs : goal.returns-then-granter-jobs
@@ -29,4 +29,4 @@ pub returns : goal.returns
 returns c =
     let needs = c.need.ensures ∙ ap (λ (w : Waiting). w.need) c.row.ensures in
     let granted = row_there c.granted.result c.in_ok-row.row NoSuchWait c.in_ok-row.ensures.value ∙ c.granted.ensures ∙ ap (granted_by c.args.granter) c.row-2.ensures in
-    grant_called c.args.self.now c.jobs-jobs.result c.jobs-jobs.ensures.value c.args.granter c.args.waiter c.if-granter-jobs.false c.if-waiter-jobs.false (omega arith) (waiting_of c.in_ok-row.row) _ c.write.new.self granted c.write.ensures.value c.write.ensures.after
+    grant_call_step c.args.self.now c.jobs-jobs.result c.jobs-jobs.ensures.value c.args.granter c.args.waiter c.if-granter-jobs.false c.if-waiter-jobs.false (omega arith) (waiting_of c.in_ok-row.row) _ c.write.new.self granted c.write.ensures.value c.write.ensures.after

@@ -1,15 +1,15 @@
 use Rattle.std.proofs.Common.{length, sym, ap, ◌∙◌, subst}
 use Rattle.rows.specs.Waiting.{idle}
-use Rattle.rows.specs.Views.{waiting}
+use Rattle.rows.specs.StoredRows.{waiting}
 use Rattle.groups.specs.History.{begun}
 use Rattle.groups.specs.State.{fresh}
-use Rattle.groups.specs.Views.{view}
-use Rattle.groups.proofs.Viewed.{view_fresh}
+use Rattle.groups.specs.StateViews.{view}
+use Rattle.groups.proofs.ViewLemmas.{view_fresh}
 use Rattle.store.specs.Creation.{new_terms}
 use Rattle.store.specs.Plain.{plain}
 use Rattle.histories.specs.Histories.{Shows}
-use Rattle.histories.proofs.Following.{fresh_shows}
-use Rattle.store.proofs.Lawful.{fresh_lawful}
+use Rattle.histories.proofs.SimulationLemmas.{fresh_shows}
+use Rattle.store.proofs.LawfulMemory.{fresh_lawful}
 use Rattle.store.proofs.store.Store.new.Goals as goal
 use Rattle.store.specs.Books.{book_of}
 

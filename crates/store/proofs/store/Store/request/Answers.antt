@@ -1,8 +1,8 @@
 use Rattle.std.proofs.Common.{sym, ap, ◌∙◌, arith}
 use Rattle.rows.specs.Waiting.{Waiting}
-use Rattle.rows.specs.Views.{waiting_of}
+use Rattle.rows.specs.StoredRows.{waiting_of}
 use Rattle.rows.proofs.Laws.{request_fits}
-use Rattle.store.proofs.Told.{no_job, is_blocked, no_row, request_called}
+use Rattle.store.proofs.AnswerLemmas.{no_job, is_blocked, no_row, request_call_step}
 use Rattle.store.proofs.store.Store.request.Goals as goal
 
 pub returns-then-job-jobs : goal.returns-then-job-jobs
@@ -26,4 +26,4 @@ write-requires-clause-lawful c =
 pub returns : goal.returns
 returns c =
     let needs = c.need.ensures ∙ ap (λ (w : Waiting). w.need) c.row.ensures in
-    request_called c.args.self.now c.jobs-jobs.result c.jobs-jobs.ensures.value c.args.job c.args.need c.args.targets.now c.if-job-jobs.false (omega arith) (waiting_of c.in_ok-row.row) _ c.write.new.self c.in_ok-row.ensures c.write.ensures.value c.write.ensures.after
+    request_call_step c.args.self.now c.jobs-jobs.result c.jobs-jobs.ensures.value c.args.job c.args.need c.args.targets.now c.if-job-jobs.false (omega arith) (waiting_of c.in_ok-row.row) _ c.write.new.self c.in_ok-row.ensures c.write.ensures.value c.write.ensures.after

@@ -1,7 +1,7 @@
 -- The rows are those that obey the law.
 use Rattle.std.proofs.Common.{ap, ◌∙◌}
 use Rattle.rows.specs.Obeys.{rows_obey}
-use Rattle.rows.specs.Views.{plain_fits}
+use Rattle.rows.specs.StoredRows.{plain_fits}
 use Rattle.store.proofs.store.Store.snapshot.Goals as goal
 
 pub invariant_of-result : goal.invariant_of-result

@@ -1,7 +1,7 @@
 -- A row that is read is one of those that obey the law.
 use Rattle.std.proofs.Common.{take, subst}
 use Rattle.std.specs.Slice.{IsGetResult}
-use Rattle.store.proofs.Seen.{stored_sound}
+use Rattle.store.proofs.RowViews.{stored_sound}
 use Rattle.store.proofs.store.Store.stored.Goals as goal
 
 pub returns-clause-lawful : goal.returns-clause-lawful

@@ -1,12 +1,12 @@
 use Rattle.std.proofs.Common.{sym, refl, ap, ◌∙◌}
 use Rattle.std.proofs.lemmas.Bool.{not-true, not-false}
-use Rattle.rows.specs.Views.{waiting}
+use Rattle.rows.specs.StoredRows.{waiting}
 use Rattle.store.specs.declared.fault.BookFault.TheVariants.{TrailFull}
-use Rattle.histories.proofs.Calling.{full_seen}
-use Rattle.store.proofs.Told.{carried_fault, write_lawful, write_seen}
+use Rattle.histories.proofs.CallLemmas.{full_seen}
+use Rattle.store.proofs.AnswerLemmas.{carried_fault, write_lawful, write_seen}
 use Rattle.store.proofs.store.Store.write.Goals as goal
 use Rattle.store.specs.Books.{book_of}
-use Rattle.groups.specs.Views.{view}
+use Rattle.groups.specs.StateViews.{view}
 
 pub returns-in_err-write : goal.returns-in_err-write
 returns-in_err-write c =

@@ -2,7 +2,7 @@
 use Rattle.std.proofs.Common.{◌≡◌, true, false, rules}
 use Rattle.std.proofs.lemmas.Iterator.{first_from_Range}
 use Rattle.rows.specs.Waiting.{at, among}
-use Rattle.tables.proofs.Waiters.{first_who_waits_is_the_first_waiter}
+use Rattle.tables.proofs.WaiterLemmas.{first_who_waits_is_the_first_waiter}
 use Rattle.tables.proofs.table.TwoWayTable.next_waiter.Goals as goal
 use borrow.Author.Tests.{tests}
 

@@ -1,6 +1,6 @@
 -- The walk from waiter to waiter, turn by turn.
 use Rattle.std.proofs.Common.{◌+◌, Some, None, refl, ◌∙◌, arith}
-use Rattle.tables.proofs.Waiters.{walk_starts_at_place_0, walked_waiter_is_a_job, walk_goes_on_to_the_next_place, walk_ends_at_a_place_without, no_waiter_past_as_many_places_as_jobs}
+use Rattle.tables.proofs.WaiterLemmas.{walk_starts_at_place_0, walked_waiter_is_a_job, walk_goes_on_to_the_next_place, walk_ends_at_a_place_without, no_waiter_past_as_many_places_as_jobs}
 use Rattle.tables.proofs.table.TwoWayTable.waiter.Goals as goal
 
 pub returns-then-place-jobs : goal.returns-then-place-jobs

@@ -1,5 +1,5 @@
 -- All waiters are left at the start.
-use Rattle.tables.proofs.Waiters.{all_waiters_are_left}
+use Rattle.tables.proofs.WaiterLemmas.{all_waiters_are_left}
 use Rattle.tables.proofs.table.TwoWayTable.waiters.Goals as goal
 
 pub returns : goal.returns

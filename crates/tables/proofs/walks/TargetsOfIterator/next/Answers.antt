@@ -1,7 +1,7 @@
 -- The next target is the first of those that are left.
 use Rattle.tables.specs.Walks.{targets_left}
-use Rattle.tables.proofs.Targets.{target_walk_steps}
-use Rattle.tables.proofs.Left.{first_makes_progress}
+use Rattle.tables.proofs.TargetLemmas.{target_walk_steps}
+use Rattle.tables.proofs.WalksLeft.{first_makes_progress}
 use Rattle.rows.specs.Waiting.{at}
 use Rattle.tables.proofs.walks.TargetsOfIterator.next.Goals as goal
 

@@ -1,5 +1,5 @@
 -- A checked row is stored whole.
-use Rattle.rows.proofs.Compared.{is_stored_whole}
+use Rattle.rows.proofs.ComparisonLemmas.{is_stored_whole}
 use Rattle.rows.proofs.plain.checks.PlainRowFromRow.from.Goals as goal
 
 pub returns : goal.returns

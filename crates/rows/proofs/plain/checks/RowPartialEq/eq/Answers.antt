@@ -1,5 +1,5 @@
 -- Stored rows are equal just where the rows say the same.
-use Rattle.rows.proofs.Compared.{stored_rows_are_compared_by_what_they_say}
+use Rattle.rows.proofs.ComparisonLemmas.{stored_rows_are_compared_by_what_they_say}
 use Rattle.rows.proofs.plain.checks.RowPartialEq.eq.Goals as goal
 
 pub returns : goal.returns

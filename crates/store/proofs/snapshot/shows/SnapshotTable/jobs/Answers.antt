@@ -1,6 +1,6 @@
 -- Stored rows that obey their law say rows that obey the row law.
 use Rattle.std.proofs.Common.{arith}
-use Rattle.store.proofs.Seen.{snapshot_is_lawful}
+use Rattle.store.proofs.RowViews.{snapshot_is_lawful}
 use Rattle.store.proofs.snapshot.shows.SnapshotTable.jobs.Goals as goal
 
 pub returns-clause-lawful : goal.returns-clause-lawful

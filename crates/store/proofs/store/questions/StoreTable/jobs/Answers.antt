@@ -1,4 +1,4 @@
-use Rattle.store.proofs.Seen.{lawful_seen}
+use Rattle.store.proofs.RowViews.{lawful_seen}
 use Rattle.store.proofs.store.questions.StoreTable.jobs.Goals as goal
 
 pub returns-clause-lawful : goal.returns-clause-lawful

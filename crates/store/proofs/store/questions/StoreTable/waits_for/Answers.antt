@@ -1,7 +1,7 @@
 -- No job waits for one beyond the last.
 use Rattle.std.proofs.Common.{sym, ◌∙◌}
 use Rattle.std.proofs.lemmas.Bool.{le-ltb}
-use Rattle.store.proofs.Seen.{none_waits_beyond}
+use Rattle.store.proofs.RowViews.{none_waits_beyond}
 use Rattle.store.proofs.store.questions.StoreTable.waits_for.Goals as goal
 
 pub returns-else-job-self : goal.returns-else-job-self

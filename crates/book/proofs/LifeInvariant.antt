@@ -8,11 +8,11 @@ use Rattle.exchange.specs.declared.record.RunRecord.{RunRecord}
 use Rattle.lives.specs.Events.{begins, lives}
 use Rattle.store.specs.Creation.{new_book, new_terms}
 use Rattle.book.specs.Events.{BookEvent, LifeOfBook}
-use Rattle.scripts.specs.Lent.{Lent, lent}
+use Rattle.scripts.specs.Workspace.{Lent, lent}
 use Rattle.book.specs.Moments.{answer_at, seen_at, written_by, AreEvents, nothing, then, Lived}
-use Rattle.book.specs.Performing.{Performed}
+use Rattle.book.specs.LifeSteps.{Performed}
 use Rattle.store.specs.Snapshots.{snapshot_view}
-use Rattle.histories.specs.Subjects.{of_book, view_of}
+use Rattle.histories.specs.Machines.{of_book, view_of}
 use Rattle.book.specs.declared.life.call.Answer.{Answer}
 use Rattle.book.specs.declared.life.call.Call.{Call}
 use Rattle.book.specs.declared.life.moment.Moment.{Moment}

@@ -4,8 +4,8 @@ use Rattle.std.proofs.lemmas.List.{length_push, set-set, set-get_or}
 use Rattle.groups.specs.declared.store.Old.{Old}
 use Rattle.groups.specs.State.{State, Face, face, total, old_row, noted, merged, unwound, restored, outside, written, opened, kept, cancelled}
 use Rattle.groups.specs.History.{History, history, join, nest, merge, forget, made, drawn, history_face}
-use Rattle.groups.specs.Shows.{Undoes, Shown, ShowsFrom}
-use Rattle.groups.proofs.Stepped.{unwound-++}
+use Rattle.groups.specs.Representation.{Undoes, Shown, ShowsFrom}
+use Rattle.groups.proofs.RollBackLemmas.{unwound-++}
 
 -- a row written and put back
 put_back_over : {P : Type 0} (rows : List P) (us : List (Old P)) (job : ℕ) (row : P) → unwound (set rows job row) (us ++ old_row rows job row ∷ []) ≡ unwound rows us

@@ -6,7 +6,7 @@ use Rattle.rows.specs.Waiting.{among}
 use Rattle.carriers.specs.Meaning.{Carried, Sent}
 use Rattle.carriers.specs.declared.message.Message.{Message}
 use Rattle.carriers.proofs.Sends.{sent_none, sent_more, length-sent}
-use Rattle.detection.specs.Asked.{RoomFor}
+use Rattle.detection.specs.Preconditions.{RoomFor}
 
 -- Some numbers are left of a list, and the messages of those before them, so many, were sent.
 pub record SentFront (f : ℕ → Message) (xs left : List ℕ) (count : ℕ) (before after : Carried) : Type 0 where

@@ -14,12 +14,12 @@ use Rattle.histories.specs.Calls.{edits, opens, cancels, ends}
 use Rattle.scripts.specs.Commands.{Command}
 use Rattle.histories.specs.Histories.{face_of, fed}
 use Rattle.histories.specs.Rules.{Terms, terms}
-use Rattle.scripts.specs.Lent.{Lent}
+use Rattle.scripts.specs.Workspace.{Lent}
 use Rattle.scripts.specs.ScriptRuns.{RanScript}
 use Rattle.scripts.specs.Scripts.{Progress, CarriesOut, edited, opened, ended, answered, Stops, not_edited, not_opened, no_group, no_space, not_detected, Steps, carries, stops, strange, Reads, finishes, faults, steps, cancel_groups, script_answer, Worked, Refused, Scripted}
 use Rattle.scripts.specs.Limits.{script_max}
-use Rattle.histories.specs.Subjects.{of_book, of_history}
-use Rattle.histories.proofs.Standing.{Stands, same_answer, stands_after, same_ending, same_rows, same_mark, same_depth}
+use Rattle.histories.specs.Machines.{of_book, of_history}
+use Rattle.histories.proofs.BookBesideHistory.{Stands, same_answer, stands_after, same_ending, same_rows, same_mark, same_depth}
 use Rattle.store.specs.Plain.{plain}
 use Rattle.store.specs.Books.{PlainBook, Fixed}
 

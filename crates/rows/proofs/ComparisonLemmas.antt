@@ -10,9 +10,9 @@ use Rattle.rows.specs.declared.plain.PlainRow.{PlainRow}
 use Rattle.rows.specs.declared.plain.Row.{Row}
 use Rattle.rows.specs.Waiting.{Waiting}
 use Rattle.rows.specs.Law.{sound}
-use Rattle.rows.specs.Views.{waiting, waiting_of, places_of, stored_as, all_sound, says_same, StoredWhole}
+use Rattle.rows.specs.StoredRows.{waiting, waiting_of, places_of, stored_as, all_sound, says_same, StoredWhole}
 use Rattle.rows.proofs.Places.{places_tell, fitting_places_are_decided}
-use Rattle.rows.proofs.Stored.{sound_parts}
+use Rattle.rows.proofs.StoredRowLemmas.{sound_parts}
 
 -- A sound stored row is decided by what it says.
 pub sound_is_stored_as : (p : PlainRow) → sound p.need p.count p.targets ≡ true → p ≡ stored_as (waiting p)

@@ -3,9 +3,9 @@ use Rattle.std.proofs.Common.{◌≡◌, ◌-◌, Bool, true, false, cond, List,
 use Rattle.std.proofs.lemmas.List.{length-set, length-replicate}
 use Rattle.groups.specs.State.{State, old_row, noted, merged, outside}
 use Rattle.groups.specs.History.{History, begun}
-use Rattle.groups.specs.Shows.{ShowsFrom}
-use Rattle.groups.proofs.Shown.{shows_face, write_shows, open_shows, keep_shows, cancel_shows}
-use Rattle.groups.proofs.Viewed.{length-restored}
+use Rattle.groups.specs.Representation.{ShowsFrom}
+use Rattle.groups.proofs.RepresentationLemmas.{shows_face, write_shows, open_shows, keep_shows, cancel_shows}
+use Rattle.groups.proofs.ViewLemmas.{length-restored}
 use Rattle.histories.specs.Calls.{Call, edits, opens, keeps, cancels}
 use Rattle.histories.specs.Answers.{Answer, accepted}
 use Rattle.histories.specs.Rules.{Terms, BookState, terms, Rules, fresh_book, answer, says, after, changed, changed_state}

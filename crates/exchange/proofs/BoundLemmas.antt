@@ -8,9 +8,9 @@ use Rattle.rows.specs.Waiting.{Waiting}
 use Rattle.exchange.specs.Runs.{RunState, Run, stays, delivers, Exchange}
 use Rattle.exchange.specs.Bounds.{Awaited, RunsAreBounded}
 use Rattle.exchange.proofs.Entries
-use Rattle.exchange.proofs.Kept.{Kept, delivery_keeps, start_keeps, finds_due, length-by_weight}
+use Rattle.exchange.proofs.DeliveryInvariants.{Kept, delivery_keeps, start_keeps, finds_due, length-by_weight}
 use Rattle.exchange.proofs.Reactions.{receiver_is_a_job}
-use Rattle.exchange.proofs.Sound.{Sound, lawful_is_sound}
+use Rattle.exchange.proofs.LawfulRows.{Sound, lawful_is_sound}
 use Rattle.exchange.proofs.Weights.{weigh}
 
 module _ (rows : List Waiting) (ok : Sound rows) where

@@ -9,7 +9,7 @@ use Rattle.carriers.specs.Messages.{receiver}
 use Rattle.exchange.specs.Records.{blank}
 use Rattle.exchange.specs.Rules.{spread}
 use Rattle.exchange.specs.Runs.{RunState, reaction, Delivers, Run, stays, delivers, Exchange}
-use Rattle.exchange.proofs.Bounded.{runs_are_bounded}
+use Rattle.exchange.proofs.BoundLemmas.{runs_are_bounded}
 
 -- A run goes on by one more delivery.
 run_goes_on : {rows : List Waiting} {s t u : RunState} {order : List Message} {m : Message} → Run rows s order t → Delivers rows m t u → Run rows s (order ++ m ∷ []) u

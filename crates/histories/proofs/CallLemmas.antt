@@ -3,16 +3,16 @@ use Rattle.std.proofs.Common.{◌≡◌, ℕ, ◌+◌, ◌≤◌, Bool, true, fa
 use Rattle.groups.specs.declared.store.Ending.{Ending}
 use Rattle.groups.specs.declared.store.Ending.TheVariants.{Keep, Cancel}
 use Rattle.groups.specs.declared.store.Stub.{Stub}
-use Rattle.groups.specs.Stubs.{fits, ended_as}
-use Rattle.groups.specs.Views.{view}
-use Rattle.groups.proofs.Viewed.{view_kept, view_cancelled, view_depth, view_used}
+use Rattle.groups.specs.TicketIds.{fits, ended_as}
+use Rattle.groups.specs.StateViews.{view}
+use Rattle.groups.proofs.ViewLemmas.{view_kept, view_cancelled, view_depth, view_used}
 use Rattle.groups.specs.State.{State, Face, face, full, innermost, written, opened, kept, cancelled}
 use Rattle.histories.specs.Answers.{Answer, done, ticket, accepted, trail_full, too_deep, not_innermost}
 use Rattle.histories.specs.Calls.{Call, edits, opens, keeps, cancels, ends}
 use Rattle.histories.specs.Histories.{Called}
 use Rattle.histories.specs.Rules.{BookState, book_state, Rules, says, changed}
-use Rattle.histories.proofs.StubAnswers.{stub_answer, ending_answer_of}
-use Rattle.histories.proofs.Following.{called}
+use Rattle.histories.proofs.TicketIdAnswers.{stub_answer, ending_answer_of}
+use Rattle.histories.proofs.SimulationLemmas.{called}
 
 -- a face decides the same where it counts the same
 full_same : {P Q : Type 0} (room : ℕ) (f : Face P) (f' : Face Q) → f.depth ≡ f'.depth → f.used ≡ f'.used → full room f ≡ full room f'
@@ -37,13 +37,13 @@ module _ {Q E K : Type 0} (R : Rules Q E K) where
   by_test s t w c a taken refused false true e y n qr ch f g = absurd (cc qr)
 
   -- a refused edit changes nothing
-  pub stopped_called : (s : BookState Q K) (e : E) (a stop : Answer) → accepted stop ≡ false → a ≡ stop → stop ≡ says R s (edits e) → Called R s (edits e) a s
-  stopped_called s e a stop refused h p =
+  pub stopped_call_step : (s : BookState Q K) (e : E) (a stop : Answer) → accepted stop ≡ false → a ≡ stop → stop ≡ says R s (edits e) → Called R s (edits e) a s
+  stopped_call_step s e a stop refused h p =
       called R s (edits e) a s (h ∙ p) (ap (λ k. cond k (changed R s (edits e)) s) (sym refused ∙ ap accepted p))
 
   -- an edit that passes its own checks is stopped by a full trail alone
-  pub edit_called : (s t : BookState Q K) (e : E) (w : Q) (a : Answer) → w ≡ R.next_row s.state.rows e → says R s (edits e) ≡ cond (full s.state.room (face s.state)) trail_full done → a ≡ cond (full s.state.room (face s.state)) trail_full done → t ≡ cond (full s.state.room (face s.state)) s (book_state s.fixed (written s.state (R.job_of e) w)) → Called R s (edits e) a t
-  edit_called s t e w a is p f g =
+  pub edit_call_step : (s t : BookState Q K) (e : E) (w : Q) (a : Answer) → w ≡ R.next_row s.state.rows e → says R s (edits e) ≡ cond (full s.state.room (face s.state)) trail_full done → a ≡ cond (full s.state.room (face s.state)) trail_full done → t ≡ cond (full s.state.room (face s.state)) s (book_state s.fixed (written s.state (R.job_of e) w)) → Called R s (edits e) a t
+  edit_call_step s t e w a is p f g =
       called R s (edits e) a t (f ∙ sym p)
       (g
       ∙ ap (λ v. cond (full s.state.room (face s.state)) s (book_state s.fixed (written s.state (R.job_of e) v))) is
@@ -70,20 +70,20 @@ module _ {P : Type 0} (n : ℕ) {Q : Type 0} (f : P → Q) where
   seen_if fixed false s t = refl
 
   module _ {E K : Type 0} (R : Rules Q E K) (fixed : K) (s t : State P) where
-    pub open_called : (r : Option Stub) → r ≡ cond (ltb (face s).depth 8) (Some (record { mark = s.mark; depth = (face s).depth + 1 })) None → t ≡ cond (ltb (face s).depth 8) (opened s) s → Called R (seen fixed s) opens (stub_answer r) (seen fixed t)
-    open_called r e g =
+    pub open_call_step : (r : Option Stub) → r ≡ cond (ltb (face s).depth 8) (Some (record { mark = s.mark; depth = (face s).depth + 1 })) None → t ≡ cond (ltb (face s).depth 8) (opened s) s → Called R (seen fixed s) opens (stub_answer r) (seen fixed t)
+    open_call_step r e g =
         let d = view_depth n f s in
         let q = ltb (face s).depth 8 in
         by_test R (seen fixed s) (seen fixed t) (book_state fixed (opened (view n f s))) opens _ (ticket s.mark ((face (view n f s)).depth + 1)) too_deep (ltb (face (view n f s)).depth 8) q refl refl refl (ap (λ k. ltb k 8) d) refl
         (ap stub_answer e ∙ open_told q s.mark (face s).depth (face (view n f s)).depth (sym d))
         (ap (seen fixed) g ∙ seen_if fixed q (opened s) s)
 
-    pub end_called : n ≤ length s.rows → (e : Ending) (k : Stub) (r : Result (Unit {0}) Stub) → r ≡ cond (fits s k) (Ok tt) (Err k) → t ≡ cond (fits s k) (ended_as e s) s → Called R (seen fixed s) (ends e k.mark k.depth) (ending_answer_of r) (seen fixed t)
-    end_called l Keep k r e g =
+    pub end_call_step : n ≤ length s.rows → (e : Ending) (k : Stub) (r : Result (Unit {0}) Stub) → r ≡ cond (fits s k) (Ok tt) (Err k) → t ≡ cond (fits s k) (ended_as e s) s → Called R (seen fixed s) (ends e k.mark k.depth) (ending_answer_of r) (seen fixed t)
+    end_call_step l Keep k r e g =
         by_test R (seen fixed s) (seen fixed t) (seen fixed (kept s)) (keeps k.mark k.depth) _ done (not_innermost k.mark k.depth) _ (fits s k) refl refl refl (fits_seen s k) (ap (book_state fixed) (sym (view_kept n f s)))
         (end_told (fits s k) k r e)
         (ap (seen fixed) g ∙ seen_if fixed (fits s k) (kept s) s)
-    end_called l Cancel k r e g =
+    end_call_step l Cancel k r e g =
         by_test R (seen fixed s) (seen fixed t) (seen fixed (cancelled s)) (cancels k.mark k.depth) _ done (not_innermost k.mark k.depth) _ (fits s k) refl refl refl (fits_seen s k) (ap (book_state fixed) (sym (view_cancelled n f s l)))
         (end_told (fits s k) k r e)
         (ap (seen fixed) g ∙ seen_if fixed (fits s k) (cancelled s) s)

@@ -6,8 +6,8 @@ use Rattle.std.proofs.lemmas.List.{map-set, map-append, length-map, length-set, 
 use Rattle.std.proofs.lemmas.Bool.{cases_lt}
 use Rattle.groups.specs.declared.store.Old.{Old}
 use Rattle.groups.specs.State.{State, face, total, old_row, noted, merged, unwound, restored, outside, fresh, written, kept, cancelled}
-use Rattle.groups.specs.Views.{old_view, view}
-use Rattle.groups.proofs.Stepped.{same_state}
+use Rattle.groups.specs.StateViews.{old_view, view}
+use Rattle.groups.proofs.RollBackLemmas.{same_state}
 
 length-unwound : {P : Type 0} (rows : List P) (os : List (Old P)) → length (unwound rows os) ≡ length rows
 length-unwound rows [] = refl

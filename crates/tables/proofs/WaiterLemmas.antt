@@ -5,7 +5,7 @@ use Rattle.rows.specs.Waiting.{Waiting, at, among, target_at}
 use Rattle.rows.specs.Law.{rising}
 use Rattle.rows.proofs.Fits.{rising_from_lower}
 use Rattle.tables.specs.Tables.{waiters_from, waiters, first_from}
-use Rattle.tables.proofs.Targets.{no_target_is_past, target_past_is_none, target_is_among}
+use Rattle.tables.proofs.TargetLemmas.{no_target_is_past, target_past_is_none, target_is_among}
 use Rattle.tables.proofs.Laws.{who_waits_is_a_job}
 
 -- Waiters rise.

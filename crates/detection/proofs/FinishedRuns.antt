@@ -9,12 +9,12 @@ use Rattle.tables.specs.Tables.{IsTable}
 use Rattle.exchange.specs.Records.{blank}
 use Rattle.exchange.specs.Runs.{Exchange}
 use Rattle.exchange.specs.declared.record.RunRecord.{RunRecord}
-use Rattle.exchange.proofs.Bounded.{runs_are_bounded}
-use Rattle.exchange.proofs.Told.{ended_runs_tell}
+use Rattle.exchange.proofs.BoundLemmas.{runs_are_bounded}
+use Rattle.exchange.proofs.EndedRuns.{ended_runs_tell}
 use Rattle.detection.specs.Detected.{verdict_of, Finished}
 use Rattle.detection.specs.declared.verdict.Detection.{Detection}
 use Rattle.tables.proofs.Sizes.{waits_are_few}
-use Rattle.detection.proofs.Going.{state, Going, growth, within_bounds, growth_is_the_deliveries}
+use Rattle.detection.proofs.RunInvariant.{state, Going, growth, within_bounds, growth_is_the_deliveries}
 use Rattle.detection.proofs.Verdicts.{free_verdict_tells, stuck_verdict_tells}
 
 -- The end of a run: no message came.

@@ -4,10 +4,10 @@ use Rattle.carriers.specs.Meaning.{Carried}
 use Rattle.exchange.specs.declared.record.RunRecord.{RunRecord}
 use Rattle.scripts.specs.Commands.{Command}
 use Rattle.scripts.specs.Scripts.{Progress, CarriesOut, Stops}
-use Rattle.histories.specs.Subjects.{of_book}
+use Rattle.histories.specs.Machines.{of_book}
 use Rattle.scripts.specs.declared.fault.ScriptFault.{ScriptFault}
 use Rattle.scripts.specs.declared.tally.Tally.{Tally}
-use Rattle.scripts.specs.Lent.{lent}
+use Rattle.scripts.specs.Workspace.{lent}
 use Rattle.store.specs.Plain.{plain}
 use Rattle.store.specs.Books.{PlainBook}
 

@@ -1,5 +1,5 @@
 -- A call of a life that is made on a book.
-use Rattle.scripts.specs.Lent.{Lent}
+use Rattle.scripts.specs.Workspace.{Lent}
 use Rattle.book.specs.Moments.{IsEvent}
 use Rattle.book.specs.Events.{BookEvent, DoesOnBook}
 use Rattle.book.specs.declared.life.call.Answer.{Answer}

@@ -3,9 +3,9 @@ use Rattle.std.proofs.Common.{◌≡◌, ℕ, Bool, true, false, cond, not, ◌&
 use Rattle.std.proofs.lemmas.Bool.{true≢false, and_parts, eqb-true, ltb-true}
 use Rattle.std.specs.List.{AllByRecursion}
 use Rattle.tables.specs.Tables.{lawful}
-use Rattle.exchange.proofs.Ends.{a_run_ends}
-use Rattle.exchange.proofs.Exact.{twice_both}
-use Rattle.exchange.proofs.Sound.{lawful_is_sound}
+use Rattle.exchange.proofs.Termination.{a_run_ends}
+use Rattle.exchange.proofs.ExactDeliveries.{twice_both}
+use Rattle.exchange.proofs.LawfulRows.{lawful_is_sound}
 use Rattle.small_books.specs.Books.{RunLine, table}
 use Rattle.small_books.specs.Facts.{Tells, Holds, SmallBooksHold}
 use Rattle.exchange.proofs.Rounds.{reached, freed, spread_out, freed_out}

@@ -9,11 +9,11 @@ use Rattle.tables.specs.Tables.{waiters}
 use Rattle.exchange.specs.Records.{blank}
 use Rattle.exchange.specs.Runs.{RunState, Exchange}
 use Rattle.exchange.specs.declared.record.RunRecord.{RunRecord}
-use Rattle.exchange.proofs.Bounded.{exchange_keeps}
+use Rattle.exchange.proofs.BoundLemmas.{exchange_keeps}
 use Rattle.exchange.proofs.Entries
-use Rattle.exchange.proofs.Kept.{Kept, sums, sum_of_dones, sum_of_acks, start_keeps}
+use Rattle.exchange.proofs.DeliveryInvariants.{Kept, sums, sum_of_dones, sum_of_acks, start_keeps}
 use Rattle.exchange.proofs.Ranks.{Later, Timed, is_notified, is_free, notified_by, freed_by, notifier, granter, start_is_timed, run_is_timed}
-use Rattle.exchange.proofs.Sound.{Sound, targets, waits_by_waiter, waits_by_target}
+use Rattle.exchange.proofs.LawfulRows.{Sound, targets, waits_by_waiter, waits_by_target}
 use Rattle.exchange.proofs.Sums.{total, total_same, total_none, total_add}
 use Rattle.exchange.proofs.Weights.{weigh}
 

@@ -12,7 +12,7 @@ use Rattle.carriers.specs.declared.message.Kind.TheVariants.{Notify, Done, Grant
 use Rattle.carriers.specs.declared.message.Message.{Message}
 use Rattle.carriers.specs.declared.message.Wait.{Wait}
 use Rattle.rows.specs.Waiting.{Waiting, among}
-use Rattle.tables.specs.Closed.{count}
+use Rattle.tables.specs.ClosedSets.{count}
 use Rattle.tables.specs.Tables.{waits, waiters}
 use Rattle.tables.proofs.Grants.{row_after_a_write}
 use Rattle.tables.proofs.Laws.{who_waits_is_a_job}
@@ -24,7 +24,7 @@ use Rattle.exchange.specs.Bounds.{Due}
 use Rattle.exchange.specs.declared.record.RunRecord.{RunRecord}
 use Rattle.exchange.proofs.Entries
 use Rattle.exchange.proofs.Reactions
-use Rattle.exchange.proofs.Sound.{need, targets, Sound, count_le_length, count_grows, waits_by_waiter, waits_by_target}
+use Rattle.exchange.proofs.LawfulRows.{need, targets, Sound, count_le_length, count_grows, waits_by_waiter, waits_by_target}
 use Rattle.exchange.proofs.Sums.{total, total_same, total_change, total_none, total_add, total_at, summand_le_total, count_is_total}
 use Rattle.exchange.proofs.Weights.{weigh, weigh_append, weigh_shuffled}
 

@@ -14,9 +14,9 @@ use Rattle.exchange.specs.Records.{blank}
 use Rattle.exchange.specs.Rules.{spread}
 use Rattle.exchange.specs.Runs.{RunState, reaction, stays, Exchange}
 use Rattle.exchange.specs.declared.record.RunRecord.{RunRecord}
-use Rattle.exchange.proofs.Bounded.{runs_are_bounded}
-use Rattle.detection.specs.Asked.{RoomFor}
-use Rattle.exchange.proofs.Ends.{exchange_goes_on}
+use Rattle.exchange.proofs.BoundLemmas.{runs_are_bounded}
+use Rattle.detection.specs.Preconditions.{RoomFor}
+use Rattle.exchange.proofs.Termination.{exchange_goes_on}
 use Rattle.tables.proofs.Sizes.{waits_are_few}
 
 abbrev pub state : List RunRecord → List Message → RunState

@@ -2,16 +2,16 @@
 use Rattle.std.proofs.Common.{◌≡◌, ℕ, ◌<◌, ◌≤◌, Bool, true, false, cond, not, ◌||◌, ◌⊎◌, ◌↔◌, List, [], length, get_or, sym, refl, ap, ◌∙◌, inl, inr, arith}
 use Rattle.std.proofs.lemmas.Bool.{true≢false, cases_eq, cases_Bool}
 use Rattle.rows.specs.Waiting.{Waiting, among}
-use Rattle.tables.specs.Closed.{count, Loosened}
+use Rattle.tables.specs.ClosedSets.{count, Loosened}
 use Rattle.tables.proofs.Grants.{closed_from, loosened_can_be_freed}
 use Rattle.exchange.specs.Records.{blank}
 use Rattle.exchange.specs.Runs.{RunState}
 use Rattle.exchange.specs.Verdicts.{EndedRunsTell}
-use Rattle.exchange.proofs.Bounded.{exchange_keeps}
+use Rattle.exchange.proofs.BoundLemmas.{exchange_keeps}
 use Rattle.exchange.proofs.Entries
-use Rattle.exchange.proofs.Exact.{no_done_due, no_ack_due}
-use Rattle.exchange.proofs.Kept.{Kept, sum_of_granted, sum_of_notified, sum_of_free}
-use Rattle.exchange.proofs.Sound.{need, targets, Sound, lawful_is_sound, count_grows}
+use Rattle.exchange.proofs.ExactDeliveries.{no_done_due, no_ack_due}
+use Rattle.exchange.proofs.DeliveryInvariants.{Kept, sum_of_granted, sum_of_notified, sum_of_free}
+use Rattle.exchange.proofs.LawfulRows.{need, targets, Sound, lawful_is_sound, count_grows}
 use Rattle.exchange.proofs.Weights.{weigh}
 
 module _ (rows : List Waiting) (ok : Sound rows) (initiator k : ℕ) (s : RunState) (v : Kept rows initiator k s) (none : s.waiting ≡ []) where

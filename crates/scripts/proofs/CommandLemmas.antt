@@ -13,8 +13,8 @@ use Rattle.histories.specs.Calls.{Call, edits}
 use Rattle.histories.specs.Histories.{Called}
 use Rattle.scripts.specs.Commands.{Command, makes}
 use Rattle.scripts.specs.Scripts.{Progress, CarriesOut, Stops, edited}
-use Rattle.histories.specs.Subjects.{of_book}
-use Rattle.scripts.specs.Working.{far, CarriedOut}
+use Rattle.histories.specs.Machines.{of_book}
+use Rattle.scripts.specs.RunningScripts.{far, CarriedOut}
 use Rattle.store.specs.Plain.{plain}
 use Rattle.store.specs.Books.{PlainBook}
 

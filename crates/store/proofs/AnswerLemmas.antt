@@ -11,10 +11,10 @@ use Rattle.rows.specs.Law.{row_fits}
 use Rattle.rows.proofs.Laws.{sound_fits, grant_fits}
 use Rattle.rows.specs.Waiting.{Waiting, at, among}
 use Rattle.rows.specs.Changes.{wrong_counts, first_wrong, granted}
-use Rattle.rows.specs.Views.{StoredWhole, waiting, waiting_of, seen_some, placed, requested, granted_by}
+use Rattle.rows.specs.StoredRows.{StoredWhole, waiting, waiting_of, seen_some, placed, requested, granted_by}
 use Rattle.groups.specs.declared.store.Stub.{Stub}
-use Rattle.groups.specs.Views.{view}
-use Rattle.groups.proofs.Viewed.{view_written}
+use Rattle.groups.specs.StateViews.{view}
+use Rattle.groups.proofs.ViewLemmas.{view_written}
 use Rattle.groups.specs.State.{State, face, full, written, opened}
 use Rattle.store.specs.declared.fault.BookFault.{BookFault}
 use Rattle.store.specs.declared.fault.BookFault.TheVariants.{NoSuchJob, Blocked, WrongCounts, TrailFull, GranterBlocked, NoSuchWait, TooDeep}
@@ -24,13 +24,13 @@ use Rattle.histories.specs.Calls.{edits, opens}
 use Rattle.histories.specs.Rules.{says, book_state}
 use Rattle.histories.specs.Answers.{Answer, done}
 use Rattle.store.specs.EditAnswers.{refusal, refused_at}
-use Rattle.store.specs.Views.{told, told_stub}
+use Rattle.store.specs.Replies.{told, told_stub}
 use Rattle.histories.specs.Histories.{Called}
 use Rattle.store.specs.Memory.{Lawful}
-use Rattle.histories.proofs.StubAnswers.{stub_answer}
-use Rattle.histories.proofs.Calling.{open_called, stopped_called, edit_called}
-use Rattle.store.proofs.Lawful.{written_lawful}
-use Rattle.store.proofs.Seen.{jobs_seen, wide}
+use Rattle.histories.proofs.TicketIdAnswers.{stub_answer}
+use Rattle.histories.proofs.CallLemmas.{open_call_step, stopped_call_step, edit_call_step}
+use Rattle.store.proofs.LawfulMemory.{written_lawful}
+use Rattle.store.proofs.RowViews.{jobs_seen, wide}
 use Rattle.tables.proofs.Laws.{lawful_at}
 use Rattle.tables.specs.Tables.{lawful}
 use Rattle.store.specs.Plain.{plain}
@@ -43,8 +43,8 @@ opening_told : (r : Option Stub) → told_stub (ok_or r TooDeep) ≡ stub_answer
 opening_told (Some k) = refl
 opening_told None = refl
 
-pub opening_called : (n : ℕ) (s t : State PlainRow) (r : Option Stub) → r ≡ cond (ltb (face s).depth 8) (Some (record { mark = s.mark; depth = (face s).depth + 1 })) None → t ≡ cond (ltb (face s).depth 8) (opened s) s → Called plain (book_of (view n waiting s)) opens (told_stub (ok_or r TooDeep)) (book_of (view n waiting t))
-opening_called n s t r e f = rw (opening_told r) (open_called n waiting plain tt s t r e f)
+pub opening_call_step : (n : ℕ) (s t : State PlainRow) (r : Option Stub) → r ≡ cond (ltb (face s).depth 8) (Some (record { mark = s.mark; depth = (face s).depth + 1 })) None → t ≡ cond (ltb (face s).depth 8) (opened s) s → Called plain (book_of (view n waiting s)) opens (told_stub (ok_or r TooDeep)) (book_of (view n waiting t))
+opening_call_step n s t r e f = rw (opening_told r) (open_call_step n waiting plain tt s t r e f)
 
 -- ---- edits
 
@@ -105,7 +105,7 @@ placed_is false (Some place) w v e = absurd (cc e)
 
 module _ (s : PlainBook) (n : ℕ) (jobs : n ≡ length s.state.rows) where
   refused : (e : Edit) (fault : BookFault) → refusal fault ≡ says plain s (edits e) → Called plain s (edits e) (refusal fault) s
-  refused e fault p = stopped_called plain s e (refusal fault) (refusal fault) refl refl p
+  refused e fault p = stopped_call_step plain s e (refusal fault) (refusal fault) refl refl p
 
   module _ (job need : ℕ) (targets : List ℕ) where
     pub no_job : n ≤ job → Called plain s (edits (requests job need targets)) (refusal NoSuchJob) s
@@ -127,12 +127,12 @@ module _ (s : PlainBook) (n : ℕ) (jobs : n ≡ length s.state.rows) where
 
     pub no_row : job < n → (at s.state.rows job).need ≤ 0 → (e : RowFault) (r : Result (Unit {0}) BookFault) → Err e ≡ requested n job need targets → IsErrAnd r (λ y. y ≡ of_row e) → Called plain s (edits (requests job need targets)) (told r) s
     no_row l b e r f h =
-        stopped_called plain s (requests job need targets) (told r) (refusal (of_row e)) refl (carried_fault r (of_row e) h)
+        stopped_call_step plain s (requests job need targets) (told r) (refusal (of_row e)) refl (carried_fault r (of_row e) h)
         (sym (request_says l b ∙ ap (λ k. stop_of k (cond (full s.state.room (face s.state)) (refusal TrailFull) done)) (sym f)))
 
-    pub request_called : job < n → (at s.state.rows job).need ≤ 0 → (w : Waiting) (a : Answer) (t : PlainBook) → Ok w ≡ requested n job need targets → a ≡ cond (full s.state.room (face s.state)) (refusal TrailFull) done → t ≡ cond (full s.state.room (face s.state)) s (book_state s.fixed (written s.state job w)) → Called plain s (edits (requests job need targets)) a t
-    request_called l b w a t f g h =
-        edit_called plain s t (requests job need targets) w a
+    pub request_call_step : job < n → (at s.state.rows job).need ≤ 0 → (w : Waiting) (a : Answer) (t : PlainBook) → Ok w ≡ requested n job need targets → a ≡ cond (full s.state.room (face s.state)) (refusal TrailFull) done → t ≡ cond (full s.state.room (face s.state)) s (book_state s.fixed (written s.state job w)) → Called plain s (edits (requests job need targets)) a t
+    request_call_step l b w a t f g h =
+        edit_call_step plain s t (requests job need targets) w a
         (sym (placed_is (wrong_counts need (length targets)) (first_wrong n job 0 0 targets) (record { need = need; targets = targets }) w (sym f)))
         (request_says l b ∙ ap (λ k. stop_of k (cond (full s.state.room (face s.state)) (refusal TrailFull) done)) (sym f))
         g h
@@ -160,14 +160,14 @@ module _ (s : PlainBook) (n : ℕ) (jobs : n ≡ length s.state.rows) where
     pub no_wait : granter < n → waiter < n → (at s.state.rows granter).need ≤ 0 → (w : Option Row) (e : BookFault) (r : Result (Unit {0}) BookFault) → seen_some w ≡ granted_by granter (at s.state.rows waiter) → Err e ≡ ok_or w NoSuchWait → IsErrAnd r (λ y. y ≡ e) → Called plain s (edits (grants granter waiter)) (told r) s
     no_wait l m b None e r f g h =
         let same : e ≡ NoSuchWait = cc g in
-        stopped_called plain s (grants granter waiter) (told r) (refusal NoSuchWait) refl (carried_fault r e h ∙ ap refusal same)
+        stopped_call_step plain s (grants granter waiter) (told r) (refusal NoSuchWait) refl (carried_fault r e h ∙ ap refusal same)
         (sym (grant_says l m b ∙ ap (λ q. cond (not q) (refusal NoSuchWait) (cond (full s.state.room (face s.state)) (refusal TrailFull) done)) (grant_none granter (at s.state.rows waiter) f)))
     no_wait l m b (Some w) e r f g h = absurd (cc g)
 
-    pub grant_called : granter < n → waiter < n → (at s.state.rows granter).need ≤ 0 → (w : Waiting) (a : Answer) (t : PlainBook) → Some w ≡ granted_by granter (at s.state.rows waiter) → a ≡ cond (full s.state.room (face s.state)) (refusal TrailFull) done → t ≡ cond (full s.state.room (face s.state)) s (book_state s.fixed (written s.state waiter w)) → Called plain s (edits (grants granter waiter)) a t
-    grant_called l m b w a t e g h =
+    pub grant_call_step : granter < n → waiter < n → (at s.state.rows granter).need ≤ 0 → (w : Waiting) (a : Answer) (t : PlainBook) → Some w ≡ granted_by granter (at s.state.rows waiter) → a ≡ cond (full s.state.room (face s.state)) (refusal TrailFull) done → t ≡ cond (full s.state.room (face s.state)) s (book_state s.fixed (written s.state waiter w)) → Called plain s (edits (grants granter waiter)) a t
+    grant_call_step l m b w a t e g h =
         let some = grant_some granter (at s.state.rows waiter) w e in
-        edit_called plain s t (grants granter waiter) w a some.1
+        edit_call_step plain s t (grants granter waiter) w a some.1
         (grant_says l m b ∙ ap (λ q. cond (not q) (refusal NoSuchWait) (cond (full s.state.room (face s.state)) (refusal TrailFull) done)) some.0)
         g h
 

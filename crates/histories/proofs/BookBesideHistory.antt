@@ -4,13 +4,13 @@ use Rattle.std.proofs.lemmas.List.{length-replicate}
 use Rattle.groups.specs.declared.store.Ending.{Ending}
 use Rattle.groups.specs.History.{History, begun}
 use Rattle.groups.specs.State.{face}
-use Rattle.groups.proofs.Shown.{shows_face}
+use Rattle.groups.proofs.RepresentationLemmas.{shows_face}
 use Rattle.histories.specs.Answers.{accepted}
 use Rattle.histories.specs.Calls.{Call, edits, opens, keeps, cancels, ends}
 use Rattle.histories.specs.Rules.{Terms, BookState, terms, Rules, fresh_book, says, after, changed}
 use Rattle.histories.specs.Histories.{face_of, answers, fed, Shows}
-use Rattle.histories.specs.Subjects.{of_book, of_history, view_of}
-use Rattle.histories.proofs.Following.{length-changed, says_answers, after_shows, fresh_shows}
+use Rattle.histories.specs.Machines.{of_book, of_history, view_of}
+use Rattle.histories.proofs.SimulationLemmas.{length-changed, says_answers, after_shows, fresh_shows}
 
 module _ {P E K : Type 0} (R : Rules P E K) where
   -- no call changes what creation was told

@@ -8,7 +8,7 @@ use Rattle.std.proofs.lemmas.Bool.{and_parts, and_from}
 use Rattle.std.specs.List.{remove}
 use Rattle.rows.specs.Law.{targets_max, counts_fit, rising, shaped, stored, places_fit, sound}
 use Rattle.rows.specs.Changes.{first_wrong}
-use Rattle.rows.specs.Views.{places_of}
+use Rattle.rows.specs.StoredRows.{places_of}
 use Rattle.rows.proofs.Counts.{fit_tells, one_less_fits}
 use Rattle.rows.proofs.Fits.{removed_still_rises, fitting_rises, none_wrong_fits}
 use Rattle.rows.proofs.Places.{targets_are_in_use, places_of_targets_fit}

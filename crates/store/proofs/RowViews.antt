@@ -7,15 +7,15 @@ use Rattle.rows.specs.declared.plain.PlainRow.{PlainRow}
 use Rattle.rows.specs.declared.plain.Row.{Row}
 use Rattle.rows.specs.Law.{row_fits, places_fit, sound}
 use Rattle.rows.specs.Obeys.{rows_obey}
-use Rattle.rows.specs.Views.{waiting, all_sound, plain_fits, Checked}
+use Rattle.rows.specs.StoredRows.{waiting, all_sound, plain_fits, Checked}
 use Rattle.rows.specs.Waiting.{at, among}
 use Rattle.rows.proofs.Laws.{fits_sound}
 use Rattle.tables.specs.Tables.{jobs_max, lawful}
 use Rattle.tables.proofs.Laws.{target_below}
 use Rattle.groups.specs.State.{State}
-use Rattle.groups.specs.Views.{view}
+use Rattle.groups.specs.StateViews.{view}
 use Rattle.groups.proofs.ObeysLemmas.{read_obeys, view_obeys}
-use Rattle.groups.proofs.Viewed.{length_view}
+use Rattle.groups.proofs.ViewLemmas.{length_view}
 use Rattle.store.specs.Memory.{Lawful}
 
 -- all stored rows are sound
