@@ -33,17 +33,17 @@ module _ (s : PlainBook) (g : Grant) where
   waits = among g.granter (at s.state.rows g.waiter).targets
 
   abbrev held : Bool
-  held = full s.state.room (face s.state)
+  held = full s.state.trail_room (face s.state)
 
   accepted : says plain s (grant_call g) ≡ done → Allowed s.state.rows g × (held ≡ false)
   accepted h =
       let jobs = passed (granter_outside || waiter_outside) NoSuchJob (cond blocked (refusal GranterBlocked) (cond (not waits) (refusal NoSuchWait) (cond held (refusal TrailFull) done))) h in
       let active = passed blocked GranterBlocked (cond (not waits) (refusal NoSuchWait) (cond held (refusal TrailFull) done)) jobs.1 in
       let there = passed (not waits) NoSuchWait (cond held (refusal TrailFull) done) active.1 in
-      let room = passed held TrailFull done there.1 in
+      let trail_room = passed held TrailFull done there.1 in
       let inside = or_parts granter_outside waiter_outside jobs.0 in (
         record { job = leb-false _ _ inside.0; active = omega (arith, ltb-false _ _ active.0); waits = not-false waits there.0 },
-        room.0,
+        trail_room.0,
       )
 
   accepts : Allowed s.state.rows g × (held ≡ false) → says plain s (grant_call g) ≡ done

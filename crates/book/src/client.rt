@@ -19,7 +19,7 @@ ghost use Rattle.histories.specs.Rules.{SameGroups};
 use crate::ticket::{RefusedEnding, Ticket};
 use carriers::Carrier;
 use detection::RunRecord;
-use groups::{Ending, Old};
+use groups::{Ending, UndoRecord};
 use rows::PlainRow;
 use scripts::{FinishedScript, StoppedScript, run_script};
 use std::marker::Model;
@@ -43,7 +43,7 @@ impl<'a> Model for Book<'a> {
 impl<'a> Book<'a> {
     /// A book in which every job is active. Its tickets will carry the mark, and what its groups would undo lies in the
     /// lent memory. Where more than 256 jobs are asked for, it has none.
-    pub fn new(jobs: usize, mark: u16, memory: &'a mut [Old<PlainRow>]) -> Book<'a>
+    pub fn new(jobs: usize, mark: u16, memory: &'a mut [UndoRecord<PlainRow>]) -> Book<'a>
         ensures value { result ≡ new_book jobs mark (length memory.old) }
         ensures shows { Shows plain result begun }
     {

@@ -6,7 +6,7 @@ mod life;
 mod ticket;
 
 pub use client::Book;
-pub use groups::{DEPTH_MAX, Ending, Old, Stub, TRAIL_MAX};
+pub use groups::{DEPTH_MAX, Ending, Stub, TRAIL_MAX, UndoRecord};
 pub use life::{Answer, Call, Creation, Moment, TooFewMoments, live};
 pub use rows::{PlainRow, TARGETS_MAX};
 pub use scripts::{FinishedScript, SCRIPT_MAX, ScriptFault, StoppedScript};

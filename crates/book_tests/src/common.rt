@@ -2,11 +2,11 @@
 // that a table of cases has one column for both.
 ghost use Rattle.std.specs.Prelude.{◌≡◌, ◌<◌, ◌-◌, length};
 
-use book::{Book, BookFault, Old, PlainRow, Table, Ticket};
+use book::{Book, BookFault, PlainRow, Table, Ticket, UndoRecord};
 
-// Memory for a trail of N old rows.
-pub fn trail<const N: usize>() -> [Old<PlainRow>; N] {
-    [Old {
+// Memory for a trail of N undo records.
+pub fn trail<const N: usize>() -> [UndoRecord<PlainRow>; N] {
+    [UndoRecord {
         job: 0,
         row: PlainRow::idle(),
     }; N]

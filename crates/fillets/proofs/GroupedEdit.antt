@@ -2,7 +2,7 @@
 use Rattle.std.proofs.Common.{◌≡◌, ℕ, ◌+◌, Bool, true, false, cond, eqb, ltb, List, [], ◌∷◌, sym, refl, ap, ◌∙◌, append-nil, arith}
 use Rattle.std.proofs.lemmas.List.{set-set, set-get_or}
 use Rattle.std.proofs.lemmas.Bool.{eq-eqb, lt-ltb}
-use Rattle.groups.specs.State.{face, innermost, noted, merged, old_row, opened}
+use Rattle.groups.specs.State.{face, innermost, with_undo_record, merged, undo_record, opened}
 use Rattle.groups.proofs.RollBackLemmas.{same_state}
 use Rattle.book.specs.Calls.{edits, opens, keeps, cancels}
 use Rattle.book.specs.Rules.{BookState, book_state, Rules, changed, says, after}
@@ -55,15 +55,15 @@ module _ {P E K : Type 0} (R : Rules P E K) where
   kept_groups [] = refl
   kept_groups (g ∷ gs) = ap (λ h. h ∷ gs) (append-nil g)
 
-  noted_groups : {X : Type 0} (gs : List (List X)) (x : X) → merged ((x ∷ []) ∷ gs) ≡ noted gs x
-  noted_groups [] x = refl
-  noted_groups (g ∷ gs) x = refl
+  recorded_groups : {X : Type 0} (gs : List (List X)) (x : X) → merged ((x ∷ []) ∷ gs) ≡ with_undo_record gs x
+  recorded_groups [] x = refl
+  recorded_groups (g ∷ gs) x = refl
 
   kept_round : (s : BookState P K) (e : E) (m d : ℕ) → m ≡ s.state.mark → d ≡ (face s.state).depth + 1 → after R (after R (opening s) (edits e)) (keeps m d) ≡ cond (accepted (says R (opening s) (edits e))) (changed R s (edits e)) s
   kept_round s e m d p q = rw (fits_still s e m d p q) (go (accepted (says R (opening s) (edits e))))
     where
       go : (r : Bool) → changed R (cond r (changed R (opening s) (edits e)) (opening s)) (keeps m d) ≡ cond r (changed R s (edits e)) s
-      go true = ap (book_state s.fixed) (same_state refl (noted_groups s.state.groups (old_row s.state.rows (R.job_of e) (R.next_row s.state.rows e))) refl refl)
+      go true = ap (book_state s.fixed) (same_state refl (recorded_groups s.state.groups (undo_record s.state.rows (R.job_of e) (R.next_row s.state.rows e))) refl refl)
       go false = ap (book_state s.fixed) (same_state refl (kept_groups s.state.groups) refl refl)
 
   -- ---- from the promises of the calls: an opening that gives a ticket, and an edit

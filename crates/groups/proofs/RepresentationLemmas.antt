@@ -1,42 +1,42 @@
 -- Whatever history a state shows, after each call it shows that history fed the call.
 use Rattle.std.proofs.Common.{◌≡◌, ℕ, ◌+◌, List, [], ◌∷◌, ◌++◌, length, get_or, set, sym, refl, ap, ◌∙◌, subst, arith, length-append}
 use Rattle.std.proofs.lemmas.List.{length_push, set-set, set-get_or}
-use Rattle.groups.specs.declared.store.Old.{Old}
-use Rattle.groups.specs.State.{State, Face, face, total, old_row, noted, merged, unwound, restored, outside, written, opened, kept, cancelled}
+use Rattle.groups.specs.declared.store.UndoRecord.{UndoRecord}
+use Rattle.groups.specs.State.{State, Face, face, total, undo_record, with_undo_record, merged, rolled_back, restored, outside, written, opened, kept, cancelled}
 use Rattle.groups.specs.History.{History, history, join, nest, merge, forget, made, drawn, history_face}
 use Rattle.groups.specs.Representation.{Undoes, Shown, ShowsFrom}
-use Rattle.groups.proofs.RollBackLemmas.{unwound-++}
+use Rattle.groups.proofs.RollBackLemmas.{rolled_back-++}
 
 -- a row written and put back
-put_back_over : {P : Type 0} (rows : List P) (us : List (Old P)) (job : ℕ) (row : P) → unwound (set rows job row) (us ++ old_row rows job row ∷ []) ≡ unwound rows us
+put_back_over : {P : Type 0} (rows : List P) (us : List (UndoRecord P)) (job : ℕ) (row : P) → rolled_back (set rows job row) (us ++ undo_record rows job row ∷ []) ≡ rolled_back rows us
 put_back_over rows us job row =
-    unwound-++ (set rows job row) us (old_row rows job row ∷ [])
-    ∙ ap (λ r. unwound r us) (set-set rows job row (get_or rows job row) ∙ set-get_or rows job row)
+    rolled_back-++ (set rows job row) us (undo_record rows job row ∷ [])
+    ∙ ap (λ r. rolled_back r us) (set-set rows job row (get_or rows job row) ∙ set-get_or rows job row)
 
 module _ {P C : Type 0} (job : C → ℕ) (next : List P → C → P) where
   made-++ : (rows : List P) (xs ys : List C) → made job next rows (xs ++ ys) ≡ made job next (made job next rows xs) ys
   made-++ rows [] ys = refl
   made-++ rows (x ∷ xs) ys = made-++ (set rows (job x) (next rows x)) xs ys
 
-  undoes_rows : (first : List P) (o : List C) (gs : List (List C)) (rows : List P) (us : List (List (Old P))) → Undoes job next first o gs rows us → rows ≡ drawn job next first o gs
+  undoes_rows : (first : List P) (o : List C) (gs : List (List C)) (rows : List P) (us : List (List (UndoRecord P))) → Undoes job next first o gs rows us → rows ≡ drawn job next first o gs
   undoes_rows first o [] rows [] w = w
   undoes_rows first o [] rows (u ∷ us) w = absurd w
   undoes_rows first o (g ∷ gs) rows [] w = absurd w
   undoes_rows first o (g ∷ gs) rows (u ∷ us) w = w.0
 
-  undoes_depth : (first : List P) (o : List C) (gs : List (List C)) (rows : List P) (us : List (List (Old P))) → Undoes job next first o gs rows us → length us ≡ length gs
+  undoes_depth : (first : List P) (o : List C) (gs : List (List C)) (rows : List P) (us : List (List (UndoRecord P))) → Undoes job next first o gs rows us → length us ≡ length gs
   undoes_depth first o [] rows [] w = refl
   undoes_depth first o [] rows (u ∷ us) w = absurd w
   undoes_depth first o (g ∷ gs) rows [] w = absurd w
-  undoes_depth first o (g ∷ gs) rows (u ∷ us) w = ap Prim.Native.Nat.suc (undoes_depth first o gs (unwound rows u) us w.2)
+  undoes_depth first o (g ∷ gs) rows (u ∷ us) w = ap Prim.Native.Nat.suc (undoes_depth first o gs (rolled_back rows u) us w.2)
 
-  undoes_used : (first : List P) (o : List C) (gs : List (List C)) (rows : List P) (us : List (List (Old P))) → Undoes job next first o gs rows us → total us ≡ total gs
+  undoes_used : (first : List P) (o : List C) (gs : List (List C)) (rows : List P) (us : List (List (UndoRecord P))) → Undoes job next first o gs rows us → total us ≡ total gs
   undoes_used first o [] rows [] w = refl
   undoes_used first o [] rows (u ∷ us) w = absurd w
   undoes_used first o (g ∷ gs) rows [] w = absurd w
-  undoes_used first o (g ∷ gs) rows (u ∷ us) w = omega (arith, w.1, undoes_used first o gs (unwound rows u) us w.2)
+  undoes_used first o (g ∷ gs) rows (u ∷ us) w = omega (arith, w.1, undoes_used first o gs (rolled_back rows u) us w.2)
 
-  same_face : {rows rows' : List P} {d d' u u' : ℕ} → rows ≡ rows' → d ≡ d' → u ≡ u' → ◌≡◌ {A = Face P} (record { rows = rows; depth = d; used = u }) (record { rows = rows'; depth = d'; used = u' })
+  same_face : {rows rows' : List P} {d d' u u' : ℕ} → rows ≡ rows' → d ≡ d' → u ≡ u' → ◌≡◌ {A = Face P} (record { rows = rows; depth = d; recorded = u }) (record { rows = rows'; depth = d'; recorded = u' })
   same_face a b c = cc
 
   -- what a history's answers go by is what the state's go by
@@ -44,13 +44,13 @@ module _ {P C : Type 0} (job : C → ℕ) (next : List P → C → P) where
   shows_face first s (history o gs) w =
       same_face (undoes_rows first o gs s.rows s.groups w) (undoes_depth first o gs s.rows s.groups w) (undoes_used first o gs s.rows s.groups w)
 
-  join_undoes : (first : List P) (o : List C) (gs : List (List C)) (c : C) (rows : List P) (us : List (List (Old P))) → Undoes job next first o gs rows us → Shown job next first (set rows (job c) (next rows c)) (noted us (old_row rows (job c) (next rows c))) (join (history o gs) c)
+  join_undoes : (first : List P) (o : List C) (gs : List (List C)) (c : C) (rows : List P) (us : List (List (UndoRecord P))) → Undoes job next first o gs rows us → Shown job next first (set rows (job c) (next rows c)) (with_undo_record us (undo_record rows (job c) (next rows c))) (join (history o gs) c)
   join_undoes first o [] c rows [] w = ap (λ r. set r (job c) (next r c)) w ∙ sym (made-++ first o (c ∷ []))
   join_undoes first o [] c rows (u ∷ us) w = absurd w
   join_undoes first o (g ∷ gs) c rows [] w = absurd w
   join_undoes first o (g ∷ gs) c rows (u ∷ us) w = (
     ap (λ r. set r (job c) (next r c)) w.0 ∙ sym (made-++ (drawn job next first o gs) g (c ∷ [])),
-    length_push u (old_row rows (job c) (next rows c)) ∙ ap (λ n. n + 1) w.1 ∙ sym (length_push g c),
+    length_push u (undo_record rows (job c) (next rows c)) ∙ ap (λ n. n + 1) w.1 ∙ sym (length_push g c),
     subst (λ r. Undoes job next first o gs r us) (sym (put_back_over rows u (job c) (next rows c))) w.2,
   )
 
@@ -60,7 +60,7 @@ module _ {P C : Type 0} (job : C → ℕ) (next : List P → C → P) where
   pub open_shows : (first : List P) (s : State P) (h : History C) → ShowsFrom job next first s h → ShowsFrom job next first (opened s) (nest h)
   open_shows first s (history o gs) w = (undoes_rows first o gs s.rows s.groups w, refl, w)
 
-  merge_undoes : (first : List P) (o : List C) (gs : List (List C)) (rows : List P) (us : List (List (Old P))) → Undoes job next first o gs rows us → Shown job next first rows (merged us) (merge (history o gs))
+  merge_undoes : (first : List P) (o : List C) (gs : List (List C)) (rows : List P) (us : List (List (UndoRecord P))) → Undoes job next first o gs rows us → Shown job next first rows (merged us) (merge (history o gs))
   merge_undoes first o [] rows [] w = w
   merge_undoes first o [] rows (u ∷ us) w = absurd w
   merge_undoes first o (g ∷ gs) rows [] w = absurd w
@@ -70,13 +70,13 @@ module _ {P C : Type 0} (job : C → ℕ) (next : List P → C → P) where
   merge_undoes first o (g ∷ (h ∷ gs)) rows (u ∷ (v ∷ us)) w = (
     w.0 ∙ sym (made-++ (drawn job next first o gs) h g),
     omega (arith, length-append v u, length-append h g, w.1, w.2.1),
-    subst (λ r. Undoes job next first o gs r us) (sym (unwound-++ rows v u)) w.2.2,
+    subst (λ r. Undoes job next first o gs r us) (sym (rolled_back-++ rows v u)) w.2.2,
   )
 
   pub keep_shows : (first : List P) (s : State P) (h : History C) → ShowsFrom job next first s h → ShowsFrom job next first (kept s) (merge h)
   keep_shows first s (history o gs) w = merge_undoes first o gs s.rows s.groups w
 
-  forget_undoes : (first : List P) (o : List C) (gs : List (List C)) (rows : List P) (us : List (List (Old P))) → Undoes job next first o gs rows us → Shown job next first (restored rows us) (outside us) (forget (history o gs))
+  forget_undoes : (first : List P) (o : List C) (gs : List (List C)) (rows : List P) (us : List (List (UndoRecord P))) → Undoes job next first o gs rows us → Shown job next first (restored rows us) (outside us) (forget (history o gs))
   forget_undoes first o [] rows [] w = w
   forget_undoes first o [] rows (u ∷ us) w = absurd w
   forget_undoes first o (g ∷ gs) rows [] w = absurd w

@@ -3,7 +3,7 @@ use Rattle.std.proofs.Common.{◌≡◌, ℕ, suc, ◌<◌, ◌≤◌, true, Opt
 use Rattle.std.proofs.lemmas.List.{drop-append-le, take-append-le, take-append-drop, take-take, length-take-le, length-drop, length_push, length-append, length-reverse, reverse-append}
 use Rattle.std.specs.Option.{option_to_list}
 use Rattle.std.proofs.lemmas.Bool.Decides.{nat_tests}
-use Rattle.groups.specs.State.{total, noted, merged}
+use Rattle.groups.specs.State.{total, with_undo_record, merged}
 use Rattle.groups.specs.Memory.{parts, tidy}
 
 tidy_within : (n s : ℕ) (ss : List ℕ) → tidy n (s ∷ ss) ≡ true → s ≤ n
@@ -36,9 +36,9 @@ module _ {X : Type 0} where
       omega (arith, length-take-le s xs w, length-drop s xs)
 
   -- a record more goes to the innermost group
-  parts_noted : (xs : List X) (ss : List ℕ) (x : X) → 0 < length ss → tidy (length xs) ss ≡ true → (tidy (length (xs ++ x ∷ [])) ss ≡ true) × (parts (xs ++ x ∷ []) ss ≡ noted (parts xs ss) x)
-  parts_noted xs [] x p t = absurd (omega arith)
-  parts_noted xs (s ∷ ss) x p t =
+  parts_recorded : (xs : List X) (ss : List ℕ) (x : X) → 0 < length ss → tidy (length xs) ss ≡ true → (tidy (length (xs ++ x ∷ [])) ss ≡ true) × (parts (xs ++ x ∷ []) ss ≡ with_undo_record (parts xs ss) x)
+  parts_recorded xs [] x p t = absurd (omega arith)
+  parts_recorded xs (s ∷ ss) x p t =
       let l = tidy_within (length xs) s ss t in
       let m : length xs ≤ length (xs ++ x ∷ []) = omega (arith, length_push xs x) in
       (tidy_longer (length xs) _ (s ∷ ss) p m t, ap (λ ys. ys ∷ parts (take s (xs ++ x ∷ [])) ss) (drop-append-le s xs (x ∷ []) l) ∙ ap (λ ys. (drop s xs ++ x ∷ []) ∷ parts ys ss) (take-append-le s xs (x ∷ []) l))
@@ -63,10 +63,10 @@ module _ {X : Type 0} where
   pub used_of : (xs : List X) (starts : List ℕ) → tidy (length xs) (reverse starts) ≡ true → total (parts xs (reverse starts)) ≡ length xs
   used_of xs starts t = total_parts xs (reverse starts) t
 
-  pub noted_parts : (xs : List X) (starts : List ℕ) (x : X) → 0 < length starts → tidy (length xs) (reverse starts) ≡ true → (tidy (length (xs ++ x ∷ [])) (reverse starts) ≡ true) × (parts (xs ++ x ∷ []) (reverse starts) ≡ noted (parts xs (reverse starts)) x)
-  noted_parts xs starts x l t =
+  pub recorded_parts : (xs : List X) (starts : List ℕ) (x : X) → 0 < length starts → tidy (length xs) (reverse starts) ≡ true → (tidy (length (xs ++ x ∷ [])) (reverse starts) ≡ true) × (parts (xs ++ x ∷ []) (reverse starts) ≡ with_undo_record (parts xs (reverse starts)) x)
+  recorded_parts xs starts x l t =
       let n : 0 < length (reverse starts) = omega (arith, length-reverse starts) in
-      parts_noted xs (reverse starts) x n t
+      parts_recorded xs (reverse starts) x n t
 
   pub kept_parts : (xs : List X) (before after : List ℕ) (x : Option ℕ) → before ≡ after ++ option_to_list x → (0 < length before → IsSome x) → 0 < length after → tidy (length xs) (reverse before) ≡ true → (tidy (length xs) (reverse after) ≡ true) × (parts xs (reverse after) ≡ merged (parts xs (reverse before)))
   kept_parts xs before after None e v l t =

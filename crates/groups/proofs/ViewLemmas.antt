@@ -4,18 +4,18 @@ use lib.ListN.{get_or-map}
 use lib.Seq.{take-set-lt}
 use Rattle.std.proofs.lemmas.List.{map-set, map-append, length-map, length-set, length-take-le, get_or-take, take-set-le, set_past, take-replicate}
 use Rattle.std.proofs.lemmas.Bool.{cases_lt}
-use Rattle.groups.specs.declared.store.Old.{Old}
-use Rattle.groups.specs.State.{State, face, total, old_row, noted, merged, unwound, restored, outside, fresh, written, kept, cancelled}
-use Rattle.groups.specs.StateViews.{old_view, view}
+use Rattle.groups.specs.declared.store.UndoRecord.{UndoRecord}
+use Rattle.groups.specs.State.{State, face, total, undo_record, with_undo_record, merged, rolled_back, restored, outside, fresh, written, kept, cancelled}
+use Rattle.groups.specs.StateViews.{undo_record_view, view}
 use Rattle.groups.proofs.RollBackLemmas.{same_state}
 
-length-unwound : {P : Type 0} (rows : List P) (os : List (Old P)) → length (unwound rows os) ≡ length rows
-length-unwound rows [] = refl
-length-unwound rows (o ∷ os) = length-set (unwound rows os) o.job o.row ∙ length-unwound rows os
+length-rolled_back : {P : Type 0} (rows : List P) (os : List (UndoRecord P)) → length (rolled_back rows os) ≡ length rows
+length-rolled_back rows [] = refl
+length-rolled_back rows (o ∷ os) = length-set (rolled_back rows os) o.job o.row ∙ length-rolled_back rows os
 
-pub length-restored : {P : Type 0} (rows : List P) (gs : List (List (Old P))) → length (restored rows gs) ≡ length rows
+pub length-restored : {P : Type 0} (rows : List P) (gs : List (List (UndoRecord P))) → length (restored rows gs) ≡ length rows
 length-restored rows [] = refl
-length-restored rows (g ∷ gs) = length-unwound rows g
+length-restored rows (g ∷ gs) = length-rolled_back rows g
 
 module _ {P Q : Type 0} (f : P → Q) where
   map_replicate : (n : ℕ) (x : P) → map f (replicate n x) ≡ replicate n (f x)
@@ -26,9 +26,9 @@ module _ {P Q : Type 0} (f : P → Q) where
   total_map [] = refl
   total_map (g ∷ gs) = ap (λ k. k + total (map (map f) gs)) (length-map g f) ∙ ap (λ k. length g + k) (total_map gs)
 
-  noted_map : (gs : List (List P)) (x : P) → map (map f) (noted gs x) ≡ noted (map (map f) gs) (f x)
-  noted_map [] x = refl
-  noted_map (g ∷ gs) x = ap (λ ys. ys ∷ map (map f) gs) (map-append f g (x ∷ []))
+  recorded_map : (gs : List (List P)) (x : P) → map (map f) (with_undo_record gs x) ≡ with_undo_record (map (map f) gs) (f x)
+  recorded_map [] x = refl
+  recorded_map (g ∷ gs) x = ap (λ ys. ys ∷ map (map f) gs) (map-append f g (x ∷ []))
 
   merged_map : (gs : List (List P)) → map (map f) (merged gs) ≡ merged (map (map f) gs)
   merged_map [] = refl
@@ -50,39 +50,39 @@ module _ {P Q : Type 0} (n : ℕ) (f : P → Q) where
   set_view : (rows : List P) (job : ℕ) (row : P) → n ≤ length rows → map f (take n (set rows job row)) ≡ set (map f (take n rows)) job (f row)
   set_view rows job row l = ap (map f) (take_set_any rows job row l) ∙ map-set f (take n rows) job row
 
-  old_row_view : (rows : List P) (job : ℕ) (row : P) → job < n → old_view f (old_row rows job row) ≡ old_row (map f (take n rows)) job (f row)
-  old_row_view rows job row h =
+  undo_record_seen : (rows : List P) (job : ℕ) (row : P) → job < n → undo_record_view f (undo_record rows job row) ≡ undo_record (map f (take n rows)) job (f row)
+  undo_record_seen rows job row h =
       let e = get_or-map f (take n rows) job row ∙ ap f (get_or-take n rows job row h) in cc
 
-  unwound_view : (rows : List P) (os : List (Old P)) → n ≤ length rows → map f (take n (unwound rows os)) ≡ unwound (map f (take n rows)) (map (old_view f) os)
-  unwound_view rows [] l = refl
-  unwound_view rows (o ∷ os) l =
-      let m : n ≤ length (unwound rows os) = omega (arith, length-unwound rows os) in
-      set_view (unwound rows os) o.job o.row m ∙ ap (λ r. set r o.job (f o.row)) (unwound_view rows os l)
+  rolled_back_view : (rows : List P) (os : List (UndoRecord P)) → n ≤ length rows → map f (take n (rolled_back rows os)) ≡ rolled_back (map f (take n rows)) (map (undo_record_view f) os)
+  rolled_back_view rows [] l = refl
+  rolled_back_view rows (o ∷ os) l =
+      let m : n ≤ length (rolled_back rows os) = omega (arith, length-rolled_back rows os) in
+      set_view (rolled_back rows os) o.job o.row m ∙ ap (λ r. set r o.job (f o.row)) (rolled_back_view rows os l)
 
-  restored_view : (rows : List P) (gs : List (List (Old P))) → n ≤ length rows → map f (take n (restored rows gs)) ≡ restored (map f (take n rows)) (map (map (old_view f)) gs)
+  restored_view : (rows : List P) (gs : List (List (UndoRecord P))) → n ≤ length rows → map f (take n (restored rows gs)) ≡ restored (map f (take n rows)) (map (map (undo_record_view f)) gs)
   restored_view rows [] l = refl
-  restored_view rows (g ∷ gs) l = unwound_view rows g l
+  restored_view rows (g ∷ gs) l = rolled_back_view rows g l
 
   pub view_written : (s : State P) (job : ℕ) (row : P) → n ≤ length s.rows → job < n → view n f (written s job row) ≡ written (view n f s) job (f row)
   view_written s job row l h =
-      same_state (set_view s.rows job row l) (noted_map (old_view f) s.groups (old_row s.rows job row) ∙ ap (noted (map (map (old_view f)) s.groups)) (old_row_view s.rows job row h)) refl refl
+      same_state (set_view s.rows job row l) (recorded_map (undo_record_view f) s.groups (undo_record s.rows job row) ∙ ap (with_undo_record (map (map (undo_record_view f)) s.groups)) (undo_record_seen s.rows job row h)) refl refl
 
   pub view_kept : (s : State P) → view n f (kept s) ≡ kept (view n f s)
-  view_kept s = same_state refl (merged_map (old_view f) s.groups) refl refl
+  view_kept s = same_state refl (merged_map (undo_record_view f) s.groups) refl refl
 
   pub view_cancelled : (s : State P) → n ≤ length s.rows → view n f (cancelled s) ≡ cancelled (view n f s)
-  view_cancelled s l = same_state (restored_view s.rows s.groups l) (outside_map (old_view f) s.groups) refl refl
+  view_cancelled s l = same_state (restored_view s.rows s.groups l) (outside_map (undo_record_view f) s.groups) refl refl
 
   pub view_fresh : (k : ℕ) (row : P) (mark memory : ℕ) → n ≤ k → view n f (fresh k row mark memory) ≡ fresh n (f row) mark memory
   view_fresh k row mark memory l = same_state (ap (map f) (take-replicate n k row l) ∙ map_replicate f n row) refl refl refl
 
-  -- as many groups, with as many old rows
+  -- as many groups, with as many undo records
   pub view_depth : (s : State P) → (face (view n f s)).depth ≡ (face s).depth
-  view_depth s = length-map s.groups (map (old_view f))
+  view_depth s = length-map s.groups (map (undo_record_view f))
 
-  pub view_used : (s : State P) → (face (view n f s)).used ≡ (face s).used
-  view_used s = total_map (old_view f) s.groups
+  pub view_used : (s : State P) → (face (view n f s)).recorded ≡ (face s).recorded
+  view_used s = total_map (undo_record_view f) s.groups
 
   -- there are n rows
   pub length_view : (s : State P) → n ≤ length s.rows → length (view n f s).rows ≡ n

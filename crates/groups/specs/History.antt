@@ -44,4 +44,4 @@ module _ {P C : Type 0} (job : C → ℕ) (next : List P → C → P) where
 
   -- What a history's answers go by.
   abbrev pub history_face : List P → History C → Face P
-  history_face first (history o gs) = record { rows = drawn first o gs; depth = length gs; used = total gs }
+  history_face first (history o gs) = record { rows = drawn first o gs; depth = length gs; recorded = total gs }

@@ -9,6 +9,6 @@ row_count = 256
 abbrev pub depth_max : ℕ
 depth_max = 8
 
--- How many old rows the trail holds at most, however much memory is lent.
+-- How many undo records the trail holds at most, however much memory is lent.
 abbrev pub trail_max : ℕ
 trail_max = 1024

@@ -1,15 +1,15 @@
 -- Rows with open groups, and what each call makes of them.
 use Rattle.std.specs.Prelude.{ℕ, ◌+◌, min, Bool, ◌&&◌, List, [], ◌∷◌, ◌++◌, length, replicate, ◌==◌, nat_le, nat_lt, slice_index_or, slice_set}
-use Rattle.groups.specs.declared.store.Old.{Old}
+use Rattle.groups.specs.declared.store.UndoRecord.{UndoRecord}
 use Rattle.groups.specs.Limits.{depth_max, trail_max}
 
--- The rows; the old rows that each open group would put back, the innermost group first and in each the oldest first;
--- the mark of the stubs; and how many old rows the trail has room for.
+-- The rows; the undo records that each open group would put back, the innermost group first and in each the oldest first;
+-- the mark of the stubs; and how many undo records the trail has room for.
 pub record State (P : Type 0) : Type 0 where
   pub rows : List P
-  pub groups : List (List (Old P))
+  pub groups : List (List (UndoRecord P))
   pub mark : ℕ
-  pub room : ℕ
+  pub trail_room : ℕ
 
 -- How many things some lists hold together.
 abbrev pub total : {X : Type 0} → List (List X) → ℕ
@@ -20,15 +20,15 @@ total (xs ∷ xss) = length xs + total xss
 pub record Face (P : Type 0) : Type 0 where
   pub rows : List P
   pub depth : ℕ
-  pub used : ℕ
+  pub recorded : ℕ
 
 -- What the answers of a state go by.
 abbrev pub face : {P : Type 0} → State P → Face P
-face s = record { rows = s.rows; depth = length s.groups; used = total s.groups }
+face s = record { rows = s.rows; depth = length s.groups; recorded = total s.groups }
 
 -- The trail is full for the next write: a group is open, and the groups hold as many records as there is room.
 abbrev pub full : {P : Type 0} → ℕ → Face P → Bool
-full room f = nat_lt 0 f.depth && nat_le room f.used
+full trail_room f = nat_lt 0 f.depth && nat_le trail_room f.recorded
 
 -- One more group may be opened.
 abbrev pub can_open : {P : Type 0} → Face P → Bool
@@ -40,35 +40,35 @@ innermost m f mark depth = mark == m && (depth == f.depth && nat_lt 0 depth)
 
 -- At first all rows are the same, and no group is open. The trail has as many records as the lent memory, at most 1,024.
 abbrev pub fresh : {P : Type 0} → (n : ℕ) → P → (mark memory : ℕ) → State P
-fresh n row mark memory = record { rows = replicate n row; groups = []; mark = mark; room = min memory trail_max }
+fresh n row mark memory = record { rows = replicate n row; groups = []; mark = mark; trail_room = min memory trail_max }
 
 -- What stands in a row before `row` is written there.
-abbrev pub old_row : {P : Type 0} → List P → ℕ → P → Old P
-old_row rows job row = record { job = job; row = slice_index_or rows job row }
+abbrev pub undo_record : {P : Type 0} → List P → ℕ → P → UndoRecord P
+undo_record rows job row = record { job = job; row = slice_index_or rows job row }
 
--- An old row joins the innermost group's; outside of groups it is forgotten.
-abbrev pub noted : {X : Type 0} → List (List X) → X → List (List X)
-noted [] x = []
-noted (g ∷ gs) x = (g ++ x ∷ []) ∷ gs
+-- An undo record joins the innermost group's; outside of groups it is forgotten.
+abbrev pub with_undo_record : {X : Type 0} → List (List X) → X → List (List X)
+with_undo_record [] x = []
+with_undo_record (g ∷ gs) x = (g ++ x ∷ []) ∷ gs
 
 -- The same of a state, in which nothing else changes.
-abbrev pub noting : {P : Type 0} → State P → Old P → State P
-noting s old = record { rows = s.rows; groups = noted s.groups old; mark = s.mark; room = s.room }
+abbrev pub state_with_undo_record : {P : Type 0} → State P → UndoRecord P → State P
+state_with_undo_record s old = record { rows = s.rows; groups = with_undo_record s.groups old; mark = s.mark; trail_room = s.trail_room }
 
 -- A write, with what stood there kept for the innermost group.
 abbrev pub written : {P : Type 0} → State P → ℕ → P → State P
 written s job row = record {
   rows = slice_set s.rows job row;
-  groups = noted s.groups (old_row s.rows job row);
+  groups = with_undo_record s.groups (undo_record s.rows job row);
   mark = s.mark;
-  room = s.room;
+  trail_room = s.trail_room;
 }
 
 -- One more group, which has nothing to put back yet.
 abbrev pub opened : {P : Type 0} → State P → State P
-opened s = record { rows = s.rows; groups = [] ∷ s.groups; mark = s.mark; room = s.room }
+opened s = record { rows = s.rows; groups = [] ∷ s.groups; mark = s.mark; trail_room = s.trail_room }
 
--- The innermost group's old rows are left to the next group outwards; the outermost's are forgotten.
+-- The innermost group's undo records are left to the next group outwards; the outermost's are forgotten.
 abbrev pub merged : {X : Type 0} → List (List X) → List (List X)
 merged [] = []
 merged (g ∷ []) = []
@@ -76,17 +76,17 @@ merged (g ∷ (h ∷ gs)) = (h ++ g) ∷ gs
 
 -- The innermost group ends, and its writes stay.
 abbrev pub kept : {P : Type 0} → State P → State P
-kept s = record { rows = s.rows; groups = merged s.groups; mark = s.mark; room = s.room }
+kept s = record { rows = s.rows; groups = merged s.groups; mark = s.mark; trail_room = s.trail_room }
 
 -- The rows with old ones put back, the newest of them first.
-abbrev pub unwound : {P : Type 0} → List P → List (Old P) → List P
-unwound rows [] = rows
-unwound rows (o ∷ os) = slice_set (unwound rows os) o.job o.row
+abbrev pub rolled_back : {P : Type 0} → List P → List (UndoRecord P) → List P
+rolled_back rows [] = rows
+rolled_back rows (o ∷ os) = slice_set (rolled_back rows os) o.job o.row
 
 -- The rows with the innermost group's old ones put back.
-abbrev pub restored : {P : Type 0} → List P → List (List (Old P)) → List P
+abbrev pub restored : {P : Type 0} → List P → List (List (UndoRecord P)) → List P
 restored rows [] = rows
-restored rows (g ∷ gs) = unwound rows g
+restored rows (g ∷ gs) = rolled_back rows g
 
 -- All groups but the innermost.
 abbrev pub outside : {X : Type 0} → List (List X) → List (List X)
@@ -95,4 +95,4 @@ outside (g ∷ gs) = gs
 
 -- The innermost group ends, and its writes are undone.
 abbrev pub cancelled : {P : Type 0} → State P → State P
-cancelled s = record { rows = restored s.rows s.groups; groups = outside s.groups; mark = s.mark; room = s.room }
+cancelled s = record { rows = restored s.rows s.groups; groups = outside s.groups; mark = s.mark; trail_room = s.trail_room }

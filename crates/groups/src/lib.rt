@@ -3,4 +3,4 @@
 
 mod store;
 
-pub use store::{DEPTH_MAX, Ending, Groups, Old, ROWS, Stub, TRAIL_MAX, TrailFull};
+pub use store::{DEPTH_MAX, Ending, Groups, ROWS, Stub, TRAIL_MAX, TrailFull, UndoRecord};

@@ -11,17 +11,17 @@ pub const ROWS: usize = 256;
 /// How many groups are open at most, one in another.
 pub const DEPTH_MAX: usize = 8;
 
-/// How many old rows the trail holds at most, however much memory is lent.
+/// How many undo records the trail holds at most, however much memory is lent.
 pub const TRAIL_MAX: usize = 1024;
 
 /// What stood in the row of a job before a write.
 #[derive(Clone, Copy)]
-pub struct Old<P> {
+pub struct UndoRecord<P> {
     pub job: u8,
     pub row: P,
 }
 
-/// The refusal of a write: the trail has no room for the old row.
+/// The refusal of a write: the trail has no room for the undo record.
 #[derive(Clone, Copy, Drop, PartialEq, Eq, Debug)]
 pub struct TrailFull;
 
@@ -45,12 +45,12 @@ pub enum Ending {
     Cancel,
 }
 
-/// The rows; the trail, old rows in lent memory; where each open group's part of the trail begins, the innermost last; and the
+/// The rows; the trail, undo records in lent memory; where each open group's part of the trail begins, the innermost last; and the
 /// mark of the stubs.
 #[derive(Drop)]
 pub struct Groups<'a, P> {
     rows: [P; ROWS],
-    trail: Stack<'a, Old<P>>,
+    trail: Stack<'a, UndoRecord<P>>,
     starts: ArrayVec<usize, DEPTH_MAX>,
     mark: u16,
 }
@@ -63,7 +63,7 @@ impl<'a, P> Model for Groups<'a, P> {
 
     ghost Value = { State P };
 
-    ghost view = { λ g. record { rows = g.rows; groups = parts g.trail.items (reverse g.starts.items); mark = g.mark; room = min g.trail.capacity trail_max } };
+    ghost view = { λ g. record { rows = g.rows; groups = parts g.trail.items (reverse g.starts.items); mark = g.mark; trail_room = min g.trail.capacity trail_max } };
 
     ghost invariant = { λ g. tidy (length g.trail.items) (reverse g.starts.items) ≡ true };
 }

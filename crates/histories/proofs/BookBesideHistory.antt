@@ -15,10 +15,10 @@ use Rattle.histories.proofs.SimulationLemmas.{length-changed, says_answers, afte
 module _ {P E K : Type 0} (R : Rules P E K) where
   -- no call changes what creation was told
   terms_changed : (s : BookState P K) (c : Call E) → terms (changed R s c) ≡ terms s
-  terms_changed s (edits e) = ap (λ n. record { jobs = n; mark = s.state.mark; room = s.state.room; fixed = s.fixed }) (length-changed R s (edits e))
+  terms_changed s (edits e) = ap (λ n. record { jobs = n; mark = s.state.mark; trail_room = s.state.trail_room; fixed = s.fixed }) (length-changed R s (edits e))
   terms_changed s opens = refl
   terms_changed s (keeps mark depth) = refl
-  terms_changed s (cancels mark depth) = ap (λ n. record { jobs = n; mark = s.state.mark; room = s.state.room; fixed = s.fixed }) (length-changed R s (cancels mark depth))
+  terms_changed s (cancels mark depth) = ap (λ n. record { jobs = n; mark = s.state.mark; trail_room = s.state.trail_room; fixed = s.fixed }) (length-changed R s (cancels mark depth))
 
   terms_after : (s : BookState P K) (c : Call E) → terms (after R s c) ≡ terms s
   terms_after s c = go (accepted (says R s c))
@@ -60,6 +60,6 @@ module _ {P E K : Type 0} (R : Rules P E K) where
   -- so it is at creation
   pub fresh_stands : (t : Terms K) → Stands t (fresh_book R t) begun
   fresh_stands t = record {
-    told = ap (λ n. record { jobs = n; mark = t.mark; room = t.room; fixed = t.fixed }) (length-replicate t.jobs R.idle);
+    told = ap (λ n. record { jobs = n; mark = t.mark; trail_room = t.trail_room; fixed = t.fixed }) (length-replicate t.jobs R.idle);
     shows = fresh_shows R t;
   }

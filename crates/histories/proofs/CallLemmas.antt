@@ -15,8 +15,8 @@ use Rattle.histories.proofs.TicketIdAnswers.{stub_answer, ending_answer_of}
 use Rattle.histories.proofs.SimulationLemmas.{called}
 
 -- a face decides the same where it counts the same
-full_same : {P Q : Type 0} (room : ℕ) (f : Face P) (f' : Face Q) → f.depth ≡ f'.depth → f.used ≡ f'.used → full room f ≡ full room f'
-full_same room f f' d u = rw (d, u)
+full_same : {P Q : Type 0} (trail_room : ℕ) (f : Face P) (f' : Face Q) → f.depth ≡ f'.depth → f.recorded ≡ f'.recorded → full trail_room f ≡ full trail_room f'
+full_same trail_room f f' d u = rw (d, u)
 
 open_told : (q : Bool) (m d d' : ℕ) → d ≡ d' → stub_answer (cond {A = Option Stub} q (Some (record { mark = m; depth = d + 1 })) None) ≡ cond q (ticket m (d' + 1)) too_deep
 open_told true m d d' f = ap (λ n. ticket m (n + 1)) f
@@ -42,12 +42,12 @@ module _ {Q E K : Type 0} (R : Rules Q E K) where
       called R s (edits e) a s (h ∙ p) (ap (λ k. cond k (changed R s (edits e)) s) (sym refused ∙ ap accepted p))
 
   -- an edit that passes its own checks is stopped by a full trail alone
-  pub edit_call_step : (s t : BookState Q K) (e : E) (w : Q) (a : Answer) → w ≡ R.next_row s.state.rows e → says R s (edits e) ≡ cond (full s.state.room (face s.state)) trail_full done → a ≡ cond (full s.state.room (face s.state)) trail_full done → t ≡ cond (full s.state.room (face s.state)) s (book_state s.fixed (written s.state (R.job_of e) w)) → Called R s (edits e) a t
+  pub edit_call_step : (s t : BookState Q K) (e : E) (w : Q) (a : Answer) → w ≡ R.next_row s.state.rows e → says R s (edits e) ≡ cond (full s.state.trail_room (face s.state)) trail_full done → a ≡ cond (full s.state.trail_room (face s.state)) trail_full done → t ≡ cond (full s.state.trail_room (face s.state)) s (book_state s.fixed (written s.state (R.job_of e) w)) → Called R s (edits e) a t
   edit_call_step s t e w a is p f g =
       called R s (edits e) a t (f ∙ sym p)
       (g
-      ∙ ap (λ v. cond (full s.state.room (face s.state)) s (book_state s.fixed (written s.state (R.job_of e) v))) is
-      ∙ go (full s.state.room (face s.state))
+      ∙ ap (λ v. cond (full s.state.trail_room (face s.state)) s (book_state s.fixed (written s.state (R.job_of e) v))) is
+      ∙ go (full s.state.trail_room (face s.state))
       ∙ ap (λ k. cond (accepted k) (changed R s (edits e)) s) (sym p))
     where
       go : (b : Bool) → cond b s (changed R s (edits e)) ≡ cond (accepted (cond b trail_full done)) (changed R s (edits e)) s
@@ -55,8 +55,8 @@ module _ {Q E K : Type 0} (R : Rules Q E K) where
       go false = refl
 
 module _ {P : Type 0} (n : ℕ) {Q : Type 0} (f : P → Q) where
-  pub full_seen : (s : State P) → full s.room (face (view n f s)) ≡ full s.room (face s)
-  full_seen s = full_same s.room (face (view n f s)) (face s) (view_depth n f s) (view_used n f s)
+  pub full_seen : (s : State P) → full s.trail_room (face (view n f s)) ≡ full s.trail_room (face s)
+  full_seen s = full_same s.trail_room (face (view n f s)) (face s) (view_depth n f s) (view_used n f s)
 
   fits_seen : (s : State P) (t : Stub) → innermost s.mark (face (view n f s)) t.mark t.depth ≡ fits s t
   fits_seen s t = ap (λ k. eqb t.mark s.mark && (eqb t.depth k && ltb 0 t.depth)) (view_depth n f s)

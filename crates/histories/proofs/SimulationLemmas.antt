@@ -1,7 +1,7 @@
 -- A call that answers and changes the book by the rules follows every history that the book shows.
 use Rattle.std.proofs.Common.{◌≡◌, ◌-◌, Bool, true, false, cond, List, [], ◌∷◌, length, replicate, sym, refl, ap, ◌∙◌, subst, arith}
 use Rattle.std.proofs.lemmas.List.{length-set, length-replicate}
-use Rattle.groups.specs.State.{State, old_row, noted, merged, outside}
+use Rattle.groups.specs.State.{State, undo_record, with_undo_record, merged, outside}
 use Rattle.groups.specs.History.{History, begun}
 use Rattle.groups.specs.Representation.{ShowsFrom}
 use Rattle.groups.proofs.RepresentationLemmas.{shows_face, write_shows, open_shows, keep_shows, cancel_shows}
@@ -12,9 +12,9 @@ use Rattle.histories.specs.Rules.{Terms, BookState, terms, Rules, fresh_book, an
 use Rattle.histories.specs.Histories.{answers, listed, fed, depth_after, Shows, Follows, Called}
 
 -- how many groups are open after a call
-length-noted : {X : Type 0} (gs : List (List X)) (x : X) → length (noted gs x) ≡ length gs
-length-noted [] x = refl
-length-noted (g ∷ gs) x = refl
+length-with_undo_record : {X : Type 0} (gs : List (List X)) (x : X) → length (with_undo_record gs x) ≡ length gs
+length-with_undo_record [] x = refl
+length-with_undo_record (g ∷ gs) x = refl
 
 length-merged : {X : Type 0} (gs : List (List X)) → length (merged gs) ≡ length gs - 1
 length-merged [] = refl
@@ -66,7 +66,7 @@ module _ {P E K : Type 0} (R : Rules P E K) where
       go (cancels mark depth) true = refl
 
   depth_so : (s : BookState P K) (c : Call E) (q : Bool) → length (cond q (changed R s c) s).state.groups ≡ depth_after c q (length s.state.groups)
-  depth_so s (edits e) true = length-noted s.state.groups (old_row s.state.rows (R.job_of e) (R.next_row s.state.rows e))
+  depth_so s (edits e) true = length-with_undo_record s.state.groups (undo_record s.state.rows (R.job_of e) (R.next_row s.state.rows e))
   depth_so s (edits e) false = refl
   depth_so s opens true = omega arith
   depth_so s opens false = refl

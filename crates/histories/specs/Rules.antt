@@ -10,7 +10,7 @@ use Rattle.histories.specs.Calls.{Call, edits, opens, keeps, cancels}
 pub record Terms (K : Type 0) : Type 0 where
   pub jobs : ℕ
   pub mark : ℕ
-  pub room : ℕ
+  pub trail_room : ℕ
   pub fixed : K
 
 -- A book: what its creation has fixed besides size, mark and trail; and its rows under groups, which know the rest.
@@ -24,7 +24,7 @@ book_state k s = record { fixed = k; state = s }
 
 -- All that the creation of a book has fixed.
 abbrev pub terms : {P K : Type 0} → BookState P K → Terms K
-terms b = record { jobs = length b.state.rows; mark = b.state.mark; room = b.state.room; fixed = b.fixed }
+terms b = record { jobs = length b.state.rows; mark = b.state.mark; trail_room = b.state.trail_room; fixed = b.fixed }
 
 -- The same mark, and as many groups open: a ticket fits after as it did before.
 abbrev pub SameGroups : {P K : Type 0} → BookState P K → BookState P K → Type 0
@@ -43,7 +43,7 @@ pub record Rules (P E K : Type 0) : Type 0 where
 module _ {P E K : Type 0} (R : Rules P E K) where
   -- A new book of these terms: every job has the first row, and no group is open.
   abbrev pub fresh_book : Terms K → BookState P K
-  fresh_book t = book_state t.fixed (record { rows = replicate t.jobs R.idle; groups = []; mark = t.mark; room = t.room })
+  fresh_book t = book_state t.fixed (record { rows = replicate t.jobs R.idle; groups = []; mark = t.mark; trail_room = t.trail_room })
 
   -- What an accepted call makes of the rows and groups.
   abbrev pub changed_state : State P → Call E → State P

@@ -1,7 +1,7 @@
 // What the tests share: steps of a life, and what is lent to it.
 use book::{
-    Answer, BookFault, Call, Creation, Edit, Ending, FinishedScript, Moment, Old, PlainRow,
-    RefusedStub, ScriptFault, Snapshot, StoppedScript, Stub,
+    Answer, BookFault, Call, Creation, Edit, Ending, FinishedScript, Moment, PlainRow, RefusedStub,
+    ScriptFault, Snapshot, StoppedScript, Stub, UndoRecord,
 };
 use carriers::{Kind, Message, Wait};
 use detection::{Detection, RunRecord, Verdict};
@@ -89,9 +89,9 @@ pub fn creation(jobs: usize) -> Creation {
     Creation { jobs, mark: MARK }
 }
 
-// Memory for a trail of N old rows.
-pub fn trail<const N: usize>() -> [Old<PlainRow>; N] {
-    [Old {
+// Memory for a trail of N undo records.
+pub fn trail<const N: usize>() -> [UndoRecord<PlainRow>; N] {
+    [UndoRecord {
         job: 0,
         row: PlainRow::idle(),
     }; N]

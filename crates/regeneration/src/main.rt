@@ -10,11 +10,11 @@ mod trouble;
 use crate::day::{MARK, STEPS, Step, day};
 use crate::names::JOBS;
 use crate::trouble::Trouble;
-use book::{Call, Creation, Moment, Old, PlainRow, Snapshot, live};
+use book::{Call, Creation, Moment, PlainRow, Snapshot, UndoRecord, live};
 use carriers::{Carrier, Kind, Message, Picker, QueueCarrier, StackCarrier, Wait};
 use detection::{CAPACITY_PER_WAIT, RunRecord};
 
-// How many old rows the groups of the day can hold.
+// How many undo records the groups of the day can hold.
 const TRAIL: usize = 64;
 
 // The most waits that the book has when the detector is asked.
@@ -47,7 +47,7 @@ struct Lived {
 
 // Lives the day over a carrier.
 fn live_over<C: Carrier>(calls: &[Call<'_>], carrier: &mut C) -> Result<Lived, Trouble> {
-    let mut trail = [Old {
+    let mut trail = [UndoRecord {
         job: 0,
         row: PlainRow::idle(),
     }; TRAIL];

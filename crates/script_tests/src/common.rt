@@ -2,7 +2,7 @@
 ghost use Rattle.std.specs.Prelude.{◌≡◌, length};
 ghost use Rattle.book.specs.Rules.{SameGroups};
 
-use book::{Book, FinishedScript, Old, PlainRow, StoppedScript, Table};
+use book::{Book, FinishedScript, PlainRow, StoppedScript, Table, UndoRecord};
 use carriers::{Carrier, Kind, Message, QueueCarrier, Wait};
 use detection::RunRecord;
 use std::process::Abort;
@@ -90,9 +90,9 @@ pub struct Left {
     pub handed_out: u32,
 }
 
-// Memory for a trail of N old rows.
-pub fn trail<const N: usize>() -> [Old<PlainRow>; N] {
-    [Old {
+// Memory for a trail of N undo records.
+pub fn trail<const N: usize>() -> [UndoRecord<PlainRow>; N] {
+    [UndoRecord {
         job: 0,
         row: PlainRow::idle(),
     }; N]

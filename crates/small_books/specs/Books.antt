@@ -69,7 +69,7 @@ called before call answer rows = of_call (record { before = before; call = call;
 
 -- B2 as a book with mark 7, a trail of one record and no open group.
 abbrev pub b2_book : PlainBook
-b2_book = book_of (record { rows = b2; groups = []; mark = 7; room = 1 })
+b2_book = book_of (record { rows = b2; groups = []; mark = 7; trail_room = 1 })
 
 -- In the group, 1 comes to wait for 0.
 abbrev pub b2_request : Call Edit

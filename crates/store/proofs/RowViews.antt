@@ -64,4 +64,4 @@ module _ (n : ℕ) (s : State PlainRow) (l : Lawful n s) where
 -- So it is of stored rows without groups.
 pub snapshot_is_lawful : (n : ℕ) (rows : List PlainRow) → n ≤ jobs_max → length rows ≡ 256 → rows_obey (plain_fits n) 0 rows ≡ true → lawful (map waiting (take n rows)) ≡ true
 snapshot_is_lawful n rows few whole o =
-    lawful_seen n (record { rows = rows; groups = []; mark = 0; room = 0 }) (record { few = few; obeys = record { whole = whole; rows = o; olds = refl } })
+    lawful_seen n (record { rows = rows; groups = []; mark = 0; trail_room = 0 }) (record { few = few; obeys = record { whole = whole; rows = o; undo_records = refl } })

@@ -10,10 +10,10 @@ use Rattle.store.specs.Plain.{plain}
 abbrev pub created : ℕ → ℕ
 created jobs = cond (nat_le jobs jobs_max) jobs 0
 
--- What creation fixes, by what it takes: how many jobs are asked for, the mark, and how many old rows the lent memory holds, of which
+-- What creation fixes, by what it takes: how many jobs are asked for, the mark, and how many undo records the lent memory holds, of which
 -- no more than 1,024 are used.
 abbrev pub new_terms : (jobs mark memory : ℕ) → Terms Fixed
-new_terms jobs mark memory = record { jobs = created jobs; mark = mark; room = min memory trail_max; fixed = tt }
+new_terms jobs mark memory = record { jobs = created jobs; mark = mark; trail_room = min memory trail_max; fixed = tt }
 
 -- The new book.
 abbrev pub new_book : (jobs mark memory : ℕ) → PlainBook

@@ -27,11 +27,11 @@ edit_answer t f (requests job need targets) =
     (cond (nat_lt 0 (at f.rows job).need) (stopped 2 None)
     (cond (wrong_counts need (length targets)) (stopped 3 None)
     (refused_at (first_wrong t.jobs job 0 0 targets)
-    (cond (full t.room f) trail_full
+    (cond (full t.trail_room f) trail_full
     done))))
 edit_answer t f (grants granter waiter) =
     cond (nat_le t.jobs granter || nat_le t.jobs waiter) (stopped 1 None)
     (cond (nat_lt 0 (at f.rows granter).need) (stopped 6 None)
     (cond (not (among granter (at f.rows waiter).targets)) (stopped 7 None)
-    (cond (full t.room f) trail_full
+    (cond (full t.trail_room f) trail_full
     done)))

@@ -1,11 +1,11 @@
 // A book beside its index: waiters in several words, and none where none waits.
-use book::{Book, Old, PlainRow};
+use book::{Book, PlainRow, UndoRecord};
 use tables::{INDEX_WORDS, Indexed, Table, TwoWayTable};
 
 // The words are full of old marks, which have to go.
 #[test]
 fn index_finds_waiters_in_every_word(rt: HostRuntime) {
-    let mut memory = [Old {
+    let mut memory = [UndoRecord {
         job: 0,
         row: PlainRow::idle(),
     }; 1];

@@ -1,5 +1,5 @@
 // Small tables, as books and as charts.
-use book::{Book, Old, PlainRow};
+use book::{Book, PlainRow, UndoRecord};
 use chart::{CHART_MAX, Chart, ROW_BYTES, write_chart};
 use reduction::reduce;
 use std::process::Abort;
@@ -34,7 +34,7 @@ fn reduced<T: Table>(rt: &impl Abort, table: &T) -> [u8; 5] {
 
 // The same rows as book and as chart have the same bytes, and these are the expected ones.
 fn both(rt: &impl Abort, rows: &[Row; 4], expected: [u8; 5]) {
-    let mut memory = [Old {
+    let mut memory = [UndoRecord {
         job: 0,
         row: PlainRow::idle(),
     }; 1];

@@ -1,5 +1,5 @@
 // The largest table.
-use book::{Book, JOBS_MAX, Old, PlainRow};
+use book::{Book, JOBS_MAX, PlainRow, UndoRecord};
 use reduction::reduce;
 
 // Whether every byte is the expected one.
@@ -10,7 +10,7 @@ fn all_are(bytes: &[u8], expected: u8) -> bool {
 // A chain of 256 jobs is loosened from its end; closed to a ring, all are stuck.
 #[test]
 fn chain_and_ring_of_256(rt: HostRuntime) {
-    let mut memory = [Old {
+    let mut memory = [UndoRecord {
         job: 0,
         row: PlainRow::idle(),
     }; 1];

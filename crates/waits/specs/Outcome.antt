@@ -23,7 +23,7 @@ use Rattle.book.specs.Books.{Fixed}
 abbrev pub program_jobs : ℕ
 program_jobs = jobs_max
 
--- How many old rows its trail has.
+-- How many undo records its trail has.
 abbrev pub program_trail : ℕ
 program_trail = trail_max
 

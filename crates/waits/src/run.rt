@@ -3,11 +3,13 @@ ghost use Rattle.std.specs.Prelude.{◌≡◌, ◌≤◌, length};
 ghost use Rattle.book.specs.ScriptRuns.{script_written};
 ghost use Rattle.waits.specs.Outcome.{ComesOut};
 
-use book::{Book, FinishedScript, JOBS_MAX, Old, PlainRow, StoppedScript, TRAIL_MAX, WAITS_MAX};
+use book::{
+    Book, FinishedScript, JOBS_MAX, PlainRow, StoppedScript, TRAIL_MAX, UndoRecord, WAITS_MAX,
+};
 use carriers::{Kind, Message, QueueCarrier, Wait};
 use detection::{CAPACITY_PER_WAIT, RunRecord};
 
-// As many jobs as a book can have, and as many old rows as a trail can.
+// As many jobs as a book can have, and as many undo records as a trail can.
 const PROGRAM_JOBS: usize = JOBS_MAX;
 
 const PROGRAM_TRAIL: usize = TRAIL_MAX;
@@ -26,7 +28,7 @@ pub fn run(script: &[u8], answers: &mut [u8]) -> Result<FinishedScript, StoppedS
     ensures comes_out { ComesOut script.now answers.old result answers.new }
     ensures written { script_written result ≤ length answers.new }
 {
-    let mut trail = [Old {
+    let mut trail = [UndoRecord {
         job: 0,
         row: PlainRow::idle(),
     }; PROGRAM_TRAIL];

@@ -15,7 +15,7 @@ use crate::life::moment::Moment;
 use crate::ticket::{RefusedEnding, Ticket};
 use carriers::Carrier;
 use detection::{RunRecord, detect};
-use groups::{Ending, Old, Stub};
+use groups::{Ending, Stub, UndoRecord};
 use rows::PlainRow;
 use store::{BookFault, Edit, RefusedStub, Snapshot};
 
@@ -94,12 +94,12 @@ impl<'a> Book<'a> {
 }
 
 /// Lives a whole life: a book is created, and the calls are made on it, one after the other. Each moment gets the answer of its call and
-/// what is seen of the book after it; what is seen at creation comes back. The trail holds old rows, as many as there are places, at most
+/// what is seen of the book after it; what is seen at creation comes back. The trail holds undo records, as many as there are places, at most
 /// 1,024. Detections, in scripts and outside of them, use the records and the carrier; scripts write their answers to the bytes, one
 /// behind the other. `TooFewMoments`, with nothing changed, where there are fewer moments than calls.
 pub fn live<C: Carrier>(
     creation: Creation,
-    trail: &mut [Old<PlainRow>],
+    trail: &mut [UndoRecord<PlainRow>],
     calls: &[Call<'_>],
     records: &mut [RunRecord],
     carrier: &mut C,

@@ -2,16 +2,16 @@
 ghost use Rattle.std.specs.Prelude.{◌≡◌, ◌+◌, ◌≤◌, not, length, take, drop, is_ok, if◌then◌else◌, Some, None, Ok, Err, slice_index_or};
 ghost use Rattle.containers.specs.Held.{holding};
 ghost use Rattle.groups.specs.Limits.{row_count, depth_max};
-ghost use Rattle.groups.specs.State.{face, full, can_open, fresh, written, opened, kept, cancelled, unwound, old_row, noting};
+ghost use Rattle.groups.specs.State.{face, full, can_open, fresh, written, opened, kept, cancelled, rolled_back, undo_record, state_with_undo_record};
 ghost use Rattle.groups.specs.TicketIds.{fits, ended_as};
 
-use crate::store::{Ending, Groups, Old, ROWS, Stub, TRAIL_MAX, TrailFull};
+use crate::store::{Ending, Groups, ROWS, Stub, TRAIL_MAX, TrailFull, UndoRecord};
 use arrayvec::ArrayVec;
 use containers::{Container, Stack};
 
 impl<'a, P: Copy> Groups<'a, P> {
-    /// Every row is `row`, and no group is open. The old rows will lie in the lent memory.
-    pub fn new(row: P, mark: u16, memory: &'a mut [Old<P>]) -> Groups<'a, P>
+    /// Every row is `row`, and no group is open. The undo records will lie in the lent memory.
+    pub fn new(row: P, mark: u16, memory: &'a mut [UndoRecord<P>]) -> Groups<'a, P>
         ensures { result ≡ fresh row_count row mark (length memory.old) }
     {
         Groups {
@@ -49,19 +49,19 @@ impl<'a, P: Copy> Groups<'a, P> {
     /// Writes the row of a job, and inside a group first what stands there to the trail; refused, with nothing changed, if
     /// that is full.
     pub fn write(&mut self, job: u8, row: P) -> Result<(), TrailFull>
-        ensures value { is_ok result ≡ not (full self.old.room (face self.old)) }
+        ensures value { is_ok result ≡ not (full self.old.trail_room (face self.old)) }
         ensures after { self.new ≡ (if is_ok result then written self.old job row else self.old) }
     {
-        self.note(job)?;
+        self.record_undo(job)?;
         let rows = &mut self.rows;
         rows[job as usize] = row;
         Ok(())
     }
 
     // Writes what stands in the row of a job to the trail, inside a group; refused, with nothing changed, if that is full.
-    fn note(&mut self, job: u8) -> Result<(), TrailFull>
-        ensures value { is_ok result ≡ not (full self.old.room (face self.old)) }
-        ensures after { (d : P) → self.new ≡ (if is_ok result then noting self.old (old_row self.old.rows job d) else self.old) }
+    fn record_undo(&mut self, job: u8) -> Result<(), TrailFull>
+        ensures value { is_ok result ≡ not (full self.old.trail_room (face self.old)) }
+        ensures after { (d : P) → self.new ≡ (if is_ok result then state_with_undo_record self.old (undo_record self.old.rows job d) else self.old) }
     {
         if self.starts.is_empty() {
             return Ok(());
@@ -70,7 +70,7 @@ impl<'a, P: Copy> Groups<'a, P> {
             return Err(TrailFull);
         }
         let row = self.row(job);
-        self.trail.put(Old { job, row })?;
+        self.trail.put(UndoRecord { job, row })?;
         Ok(())
     }
 
@@ -138,16 +138,16 @@ impl<'a, P: Copy> Groups<'a, P> {
         ensures { self.new ≡ cancelled self.old }
     {
         let start = self.starts.pop().unwrap_or(0);
-        unwind(&mut self.rows, &mut self.trail, start);
+        roll_back(&mut self.rows, &mut self.trail, start);
     }
 }
 
-// Puts the old rows from a start on back, the newest first, and frees their records.
-fn unwind<P: Copy>(rows: &mut [P; ROWS], trail: &mut Stack<'_, Old<P>>, start: usize)
-    ensures rows { rows.new ≡ unwound rows.old (drop start trail.old.items) }
+// Puts the undo records from a start on back, the newest first, and frees their records.
+fn roll_back<P: Copy>(rows: &mut [P; ROWS], trail: &mut Stack<'_, UndoRecord<P>>, start: usize)
+    ensures rows { rows.new ≡ rolled_back rows.old (drop start trail.old.items) }
     ensures trail { trail.new ≡ holding trail.old (take start trail.old.items) }
 {
-    let mut old = Old {
+    let mut old = UndoRecord {
         job: 0,
         row: rows[0],
     };

@@ -1,7 +1,7 @@
 // The small books as rows, and as books.
 ghost use Rattle.book.specs.Rules.{SameGroups};
 
-use book::{Book, Old, PlainRow};
+use book::{Book, PlainRow, UndoRecord};
 use carriers::{Kind, Message, Wait};
 use std::process::Abort;
 
@@ -49,9 +49,9 @@ pub fn empty_message() -> Message {
     }
 }
 
-/// Memory for a trail of one old row.
-pub fn trail() -> [Old<PlainRow>; 1] {
-    [Old {
+/// Memory for a trail of one undo record.
+pub fn trail() -> [UndoRecord<PlainRow>; 1] {
+    [UndoRecord {
         job: 0,
         row: PlainRow::idle(),
     }; 1]

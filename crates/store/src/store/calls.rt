@@ -19,7 +19,7 @@ ghost use Rattle.histories.specs.Rules.{book_state, says, after};
 use crate::calls::Edit;
 use crate::fault::{BookFault, RefusedStub};
 use crate::store::Store;
-use groups::{Ending, Groups, Old, Stub};
+use groups::{Ending, Groups, Stub, UndoRecord};
 use rows::{PlainRow, Row};
 use tables::{JOBS_MAX, Table};
 
@@ -34,7 +34,7 @@ fn created(jobs: usize) -> usize
 impl<'a> Store<'a> {
     /// A book in which every job is active. Its stubs will carry the mark, and what its groups would undo lies in the
     /// lent memory. Where more than 256 jobs are asked for, it has none.
-    pub fn new(jobs: usize, mark: u16, memory: &'a mut [Old<PlainRow>]) -> Store<'a>
+    pub fn new(jobs: usize, mark: u16, memory: &'a mut [UndoRecord<PlainRow>]) -> Store<'a>
         ensures value { result ≡ new_book jobs mark (length memory.old) }
         ensures shows { Shows plain result begun }
     {
@@ -82,8 +82,8 @@ impl<'a> Store<'a> {
     fn write(&mut self, job: usize, row: Row) -> Result<(), BookFault>
         requires job { job < length self.old.state.rows }
         requires lawful { row_fits (length self.old.state.rows) job (waiting_of row) ≡ true }
-        ensures value { told result ≡ (if full self.old.state.room (face self.old.state) then refusal TrailFull else done) }
-        ensures after { self.new ≡ (if full self.old.state.room (face self.old.state) then self.old else book_state self.old.fixed (written self.old.state job (waiting_of row))) }
+        ensures value { told result ≡ (if full self.old.state.trail_room (face self.old.state) then refusal TrailFull else done) }
+        ensures after { self.new ≡ (if full self.old.state.trail_room (face self.old.state) then self.old else book_state self.old.fixed (written self.old.state job (waiting_of row))) }
     {
         Ok(self.groups.write(job as u8, row.into())?)
     }

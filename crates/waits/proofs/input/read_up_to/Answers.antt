@@ -10,13 +10,13 @@ loop-count-preserved g c =
     let read = c.in_ok-read.read in
     let memory = c.loop-count.memory in
     let piece = c.read.new.buf in
-    let room = length memory - count in
+    let trail_room = length memory - count in
     let inside = c.loop-count.invariant.0 in
     let within = c.in_ok-read.ensures.bound.0 in
-    let asked : length piece ≡ room = c.read.auto.buf ∙ ap length (take_rest memory count) ∙ length-drop count memory in
-    let same = length-put count memory piece inside room asked (omega (arith, inside)) in
+    let asked : length piece ≡ trail_room = c.read.auto.buf ∙ ap length (take_rest memory count) ∙ length-drop count memory in
+    let same = length-put count memory piece inside trail_room asked (omega (arith, inside)) in
     let both = consumes_both _ _ _ (take count memory) (take read piece) c.loop-count.invariant.2 c.in_ok-read.ensures.bytes.0 in (
       omega (arith, within, asked, same, inside),
       same ∙ c.loop-count.invariant.1,
-      subst (Consumes (g.R.Read.remaining c.args.reader.now) (g.R.Read.remaining c.read.new.self)) (sym (piece_behind count memory piece inside read room within)) both,
+      subst (Consumes (g.R.Read.remaining c.args.reader.now) (g.R.Read.remaining c.read.new.self)) (sym (piece_behind count memory piece inside read trail_room within)) both,
     )

@@ -18,10 +18,10 @@ pub loop-place-preserved : goal.loop-place-preserved
 loop-place-preserved g c =
     let kept = c.loop-place.invariant in
     let less : c.loop-place.place < length c.args.calls.now = omega (arith, c.loop-place-test.true) in
-    let room : c.loop-place.place < length c.loop-place.moments = omega (arith, less, kept.1) in
+    let trail_room : c.loop-place.place < length c.loop-place.moments = omega (arith, less, kept.1) in
     let e = c.perform-answer.ensures in
     let performed = rw (take_rest c.loop-place.answers c.loop-place.written) at e.performed in (
-      rw (take_more c.args.calls.now c.loop-place.place Open less, take_more_set c.loop-place.moments c.loop-place.place (record { answer = c.perform-answer.result; seen = c.snapshot.result }) room, behind_all c.loop-place.written c.loop-place.answers c.perform-answer.new.answers, c.written-written.ensures)
+      rw (take_more c.args.calls.now c.loop-place.place Open less, take_more_set c.loop-place.moments c.loop-place.place (record { answer = c.perform-answer.result; seen = c.snapshot.result }) trail_room, behind_all c.loop-place.written c.loop-place.answers c.perform-answer.new.answers, c.written-written.ensures)
           (alive_next _ _ _ _ kept.0 _ _ _ c.snapshot.result performed e.written c.snapshot.ensures),
       omega (arith, length-set c.loop-place.moments c.loop-place.place (record { answer = c.perform-answer.result; seen = c.snapshot.result }), kept.1),
       drop-set-lt (length c.args.calls.now) c.loop-place.moments c.loop-place.place _ less ∙ kept.2,

@@ -1,6 +1,6 @@
 use Rattle.std.proofs.Common.{◌∙◌, arith}
 use Rattle.groups.proofs.RollBackLemmas.{put_back}
-use Rattle.groups.proofs.store.calls.unwind.Goals as goal
+use Rattle.groups.proofs.store.calls.roll_back.Goals as goal
 
 pub loop-old-preserved : goal.loop-old-preserved
 loop-old-preserved g c =

@@ -1,10 +1,10 @@
 use Rattle.std.proofs.Common.{◌≡◌, length, take, drop}
-use Rattle.groups.specs.State.{unwound}
-use Rattle.groups.proofs.store.calls.unwind.Given as goal
+use Rattle.groups.specs.State.{rolled_back}
+use Rattle.groups.proofs.store.calls.roll_back.Given as goal
 
 abbrev pub invariant-loop-old : goal.invariant-loop-old
 invariant-loop-old g l = record {
-  rows : unwound l.rows (drop l.start l.trail.items) ≡ unwound l.initial.rows (drop l.start l.initial.trail.items);
+  rows : rolled_back l.rows (drop l.start l.trail.items) ≡ rolled_back l.initial.rows (drop l.start l.initial.trail.items);
   items : take l.start l.trail.items ≡ take l.start l.initial.trail.items;
   capacity : l.trail.capacity ≡ l.initial.trail.capacity;
 }
