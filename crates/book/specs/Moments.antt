@@ -3,7 +3,7 @@ use Rattle.std.specs.Prelude.{◌≡◌, ℕ, List, [], ◌∷◌, ◌++◌, map
 use Rattle.carriers.specs.Meaning.{Carried}
 use Rattle.exchange.specs.declared.record.RunRecord.{RunRecord}
 use Rattle.groups.specs.declared.store.Ending.{Ending}
-use Rattle.groups.specs.declared.store.Stub.{Stub}
+use Rattle.groups.specs.declared.store.TicketId.{TicketId}
 use Rattle.rows.specs.Waiting.{Waiting}
 use Rattle.groups.specs.History.{History, begun}
 use Rattle.detection.specs.declared.fault.DetectionFault.{DetectionFault}
@@ -19,7 +19,7 @@ use Rattle.store.specs.Snapshots.{snapshot_view}
 use Rattle.histories.specs.Machines.{of_history, View, view_of}
 use Rattle.store.specs.Replies.{edit_of, told, told_stub, told_ending_by}
 use Rattle.store.specs.declared.fault.BookFault.{BookFault}
-use Rattle.store.specs.declared.fault.RefusedStub.{RefusedStub}
+use Rattle.store.specs.declared.fault.RefusedTicketId.{RefusedTicketId}
 use Rattle.book.specs.declared.life.call.Answer.{Answer}
 use Rattle.book.specs.declared.life.call.Answer.TheVariants.{Opened, Ended, Detected, Edited, Ran}
 use Rattle.book.specs.declared.life.call.Call.{Call}
@@ -49,8 +49,8 @@ written_by (Ran r) = script_written r
 
 -- A call with its answer is an event; `before` is what is lent to it, and `after` what is left.
 pub data IsEvent : (before : Lent) → Call → Answer → BookEvent → (after : Lent) → Type 0 where
-  opening : {l : Lent} {r : Result Stub BookFault} → IsEvent l Open (Opened r) (made opens (told_stub r)) l
-  ending : {l : Lent} {e : Ending} {k : Stub} {r : Result (Unit {0}) RefusedStub} → IsEvent l (End e k) (Ended r) (made (ends e k.mark k.depth) (told_ending_by r)) l
+  opening : {l : Lent} {r : Result TicketId BookFault} → IsEvent l Open (Opened r) (made opens (told_stub r)) l
+  ending : {l : Lent} {e : Ending} {k : TicketId} {r : Result (Unit {0}) RefusedTicketId} → IsEvent l (End e k) (Ended r) (made (ends e k.mark k.depth) (told_ending_by r)) l
   detecting : {l : Lent} {job : ℕ} {r : Result Detection DetectionFault} {is : List RunRecord} {after : Carried}
       → IsEvent l (Detect job) (Detected r) (detected job l.records l.carrier r is after) (record { records = is; carrier = after; bytes = l.bytes })
   editing : {l : Lent} {e : _} {r : Result (Unit {0}) BookFault} → IsEvent l (Make e) (Edited r) (made (edits (edit_of e)) (told r)) l

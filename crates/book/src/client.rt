@@ -23,7 +23,7 @@ use groups::{Ending, UndoRecord};
 use rows::PlainRow;
 use scripts::{FinishedScript, StoppedScript, run_script};
 use std::marker::Model;
-use store::{BookFault, RefusedStub, Snapshot, Store};
+use store::{BookFault, RefusedTicketId, Snapshot, Store};
 use tables::{Table, TwoWayTable};
 
 /// A book, whose store is nobody else's.
@@ -74,7 +74,7 @@ impl<'a> Book<'a> {
         ensures ticket { IfOk result (λ t. (t.mark ≡ self.old.state.mark) × (t.depth ≡ length self.old.state.groups + 1)) }
     {
         match self.store.open() {
-            Ok(stub) => Ok(Ticket::of(stub)),
+            Ok(id) => Ok(Ticket::of(id)),
             Err(fault) => Err(fault),
         }
     }
@@ -103,9 +103,9 @@ impl<'a> Book<'a> {
     {
         match self.store.end(ending, ticket.spent()) {
             Ok(()) => Ok(()),
-            Err(RefusedStub { fault, stub }) => Err(RefusedEnding {
+            Err(RefusedTicketId { fault, id }) => Err(RefusedEnding {
                 fault,
-                ticket: Ticket::of(stub),
+                ticket: Ticket::of(id),
             }),
         }
     }

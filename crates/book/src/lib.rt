@@ -6,10 +6,10 @@ mod life;
 mod ticket;
 
 pub use client::Book;
-pub use groups::{DEPTH_MAX, Ending, Stub, TRAIL_MAX, UndoRecord};
+pub use groups::{DEPTH_MAX, Ending, TRAIL_MAX, TicketId, UndoRecord};
 pub use life::{Answer, Call, Creation, Moment, TooFewMoments, live};
 pub use rows::{PlainRow, TARGETS_MAX};
 pub use scripts::{FinishedScript, SCRIPT_MAX, ScriptFault, StoppedScript};
-pub use store::{BookFault, Edit, RefusedStub, Snapshot};
+pub use store::{BookFault, Edit, RefusedTicketId, Snapshot};
 pub use tables::{JOBS_MAX, Table, TwoWayTable, WAITS_MAX};
 pub use ticket::{RefusedEnding, Ticket};

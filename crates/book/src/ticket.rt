@@ -1,7 +1,7 @@
 // Tickets.
 ghost use Rattle.std.specs.Prelude.{◌≡◌};
 
-use groups::Stub;
+use groups::TicketId;
 use std::marker::Model;
 use store::BookFault;
 
@@ -13,9 +13,9 @@ pub struct Ticket {
 }
 
 impl Model for Ticket {
-    ghost use Rattle.groups.specs.declared.store.Stub.{Stub};
+    ghost use Rattle.groups.specs.declared.store.TicketId.{TicketId};
 
-    ghost Value = { Stub };
+    ghost Value = { TicketId };
 
     ghost view = { λ t. record { mark = t.mark; depth = t.depth } };
 }
@@ -41,21 +41,21 @@ impl Ticket {
         self.depth
     }
 
-    // The ticket that tells what a stub tells.
-    pub(crate) fn of(stub: Stub) -> Ticket
-        ensures { result ≡ stub }
+    // The ticket that tells what a ticket id tells.
+    pub(crate) fn of(id: TicketId) -> Ticket
+        ensures { result ≡ id }
     {
         Ticket {
-            mark: stub.mark,
-            depth: stub.depth,
+            mark: id.mark,
+            depth: id.depth,
         }
     }
 
     // What the ticket tells; nobody has it any more.
-    pub(crate) fn spent(self) -> Stub
+    pub(crate) fn spent(self) -> TicketId
         ensures { result ≡ self }
     {
         let Ticket { mark, depth } = self;
-        Stub { mark, depth }
+        TicketId { mark, depth }
     }
 }

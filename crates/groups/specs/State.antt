@@ -4,7 +4,7 @@ use Rattle.groups.specs.declared.store.UndoRecord.{UndoRecord}
 use Rattle.groups.specs.Limits.{depth_max, trail_max}
 
 -- The rows; the undo records that each open group would put back, the innermost group first and in each the oldest first;
--- the mark of the stubs; and how many undo records the trail has room for.
+-- the mark of the ticket ids; and how many undo records the trail has room for.
 pub record State (P : Type 0) : Type 0 where
   pub rows : List P
   pub groups : List (List (UndoRecord P))
@@ -34,7 +34,7 @@ full trail_room f = nat_lt 0 f.depth && nat_le trail_room f.recorded
 abbrev pub can_open : {P : Type 0} → Face P → Bool
 can_open f = nat_lt f.depth depth_max
 
--- A stub is the innermost group's: its mark is the right one, and its depth is the number of open groups, not 0.
+-- A ticket id is the innermost group's: its mark is the right one, and its depth is the number of open groups, not 0.
 abbrev pub innermost : {P : Type 0} → ℕ → Face P → (mark depth : ℕ) → Bool
 innermost m f mark depth = mark == m && (depth == f.depth && nat_lt 0 depth)
 

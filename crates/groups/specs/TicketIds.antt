@@ -1,13 +1,13 @@
--- What an ending makes of a stub.
+-- What an ending makes of a ticket id.
 use Rattle.std.specs.Prelude.{Bool}
-use Rattle.groups.specs.declared.store.Stub.{Stub}
+use Rattle.groups.specs.declared.store.TicketId.{TicketId}
 use Rattle.groups.specs.declared.store.Ending.{Ending}
 use Rattle.groups.specs.declared.store.Ending.TheVariants.{Keep, Cancel}
 use Rattle.groups.specs.State.{State, face, innermost, kept, cancelled}
 
--- The stub is the innermost group's.
-abbrev pub fits : {P : Type 0} → State P → Stub → Bool
-fits s stub = innermost s.mark (face s) stub.mark stub.depth
+-- The ticket id is the innermost group's.
+abbrev pub fits : {P : Type 0} → State P → TicketId → Bool
+fits s id = innermost s.mark (face s) id.mark id.depth
 
 -- What an ending makes of the groups.
 abbrev pub ended_as : {P : Type 0} → Ending → State P → State P

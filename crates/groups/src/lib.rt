@@ -3,4 +3,4 @@
 
 mod store;
 
-pub use store::{DEPTH_MAX, Ending, Groups, ROWS, Stub, TRAIL_MAX, TrailFull, UndoRecord};
+pub use store::{DEPTH_MAX, Ending, Groups, ROWS, TRAIL_MAX, TicketId, TrailFull, UndoRecord};

@@ -33,7 +33,7 @@ impl From<Full> for TrailFull {
 
 /// Which group an ending is meant for, by the mark of its groups and by how many of them are open with it.
 #[derive(Clone, Copy, Drop, PartialEq, Eq, Debug)]
-pub struct Stub {
+pub struct TicketId {
     pub mark: u16,
     pub depth: u8,
 }
@@ -46,7 +46,7 @@ pub enum Ending {
 }
 
 /// The rows; the trail, undo records in lent memory; where each open group's part of the trail begins, the innermost last; and the
-/// mark of the stubs.
+/// mark of the ticket ids.
 #[derive(Drop)]
 pub struct Groups<'a, P> {
     rows: [P; ROWS],

@@ -2,7 +2,7 @@
 use Rattle.std.proofs.Common.{◌≡◌, ℕ, ◌+◌, ◌≤◌, Bool, true, false, cond, ◌&&◌, eqb, ltb, length, Some, None, Ok, Err, Option, Result, sym, refl, ap, ◌∙◌}
 use Rattle.groups.specs.declared.store.Ending.{Ending}
 use Rattle.groups.specs.declared.store.Ending.TheVariants.{Keep, Cancel}
-use Rattle.groups.specs.declared.store.Stub.{Stub}
+use Rattle.groups.specs.declared.store.TicketId.{TicketId}
 use Rattle.groups.specs.TicketIds.{fits, ended_as}
 use Rattle.groups.specs.StateViews.{view}
 use Rattle.groups.proofs.ViewLemmas.{view_kept, view_cancelled, view_depth, view_used}
@@ -11,18 +11,18 @@ use Rattle.histories.specs.Answers.{Answer, done, ticket, accepted, trail_full, 
 use Rattle.histories.specs.Calls.{Call, edits, opens, keeps, cancels, ends}
 use Rattle.histories.specs.Histories.{Called}
 use Rattle.histories.specs.Rules.{BookState, book_state, Rules, says, changed}
-use Rattle.histories.proofs.TicketIdAnswers.{stub_answer, ending_answer_of}
+use Rattle.histories.proofs.TicketIdAnswers.{ticket_id_answer, ending_answer_of}
 use Rattle.histories.proofs.SimulationLemmas.{called}
 
 -- a face decides the same where it counts the same
 full_same : {P Q : Type 0} (trail_room : ℕ) (f : Face P) (f' : Face Q) → f.depth ≡ f'.depth → f.recorded ≡ f'.recorded → full trail_room f ≡ full trail_room f'
 full_same trail_room f f' d u = rw (d, u)
 
-open_told : (q : Bool) (m d d' : ℕ) → d ≡ d' → stub_answer (cond {A = Option Stub} q (Some (record { mark = m; depth = d + 1 })) None) ≡ cond q (ticket m (d' + 1)) too_deep
+open_told : (q : Bool) (m d d' : ℕ) → d ≡ d' → ticket_id_answer (cond {A = Option TicketId} q (Some (record { mark = m; depth = d + 1 })) None) ≡ cond q (ticket m (d' + 1)) too_deep
 open_told true m d d' f = ap (λ n. ticket m (n + 1)) f
 open_told false m d d' f = refl
 
-end_told : (q : Bool) (k : Stub) (r : Result (Unit {0}) Stub) → r ≡ cond q (Ok tt) (Err k) → ending_answer_of r ≡ cond q done (not_innermost k.mark k.depth)
+end_told : (q : Bool) (k : TicketId) (r : Result (Unit {0}) TicketId) → r ≡ cond q (Ok tt) (Err k) → ending_answer_of r ≡ cond q done (not_innermost k.mark k.depth)
 end_told true k r e = ap ending_answer_of e
 end_told false k r e = ap ending_answer_of e
 
@@ -58,7 +58,7 @@ module _ {P : Type 0} (n : ℕ) {Q : Type 0} (f : P → Q) where
   pub full_seen : (s : State P) → full s.trail_room (face (view n f s)) ≡ full s.trail_room (face s)
   full_seen s = full_same s.trail_room (face (view n f s)) (face s) (view_depth n f s) (view_used n f s)
 
-  fits_seen : (s : State P) (t : Stub) → innermost s.mark (face (view n f s)) t.mark t.depth ≡ fits s t
+  fits_seen : (s : State P) (t : TicketId) → innermost s.mark (face (view n f s)) t.mark t.depth ≡ fits s t
   fits_seen s t = ap (λ k. eqb t.mark s.mark && (eqb t.depth k && ltb 0 t.depth)) (view_depth n f s)
 
   -- a book of such rows
@@ -70,15 +70,15 @@ module _ {P : Type 0} (n : ℕ) {Q : Type 0} (f : P → Q) where
   seen_if fixed false s t = refl
 
   module _ {E K : Type 0} (R : Rules Q E K) (fixed : K) (s t : State P) where
-    pub open_call_step : (r : Option Stub) → r ≡ cond (ltb (face s).depth 8) (Some (record { mark = s.mark; depth = (face s).depth + 1 })) None → t ≡ cond (ltb (face s).depth 8) (opened s) s → Called R (seen fixed s) opens (stub_answer r) (seen fixed t)
+    pub open_call_step : (r : Option TicketId) → r ≡ cond (ltb (face s).depth 8) (Some (record { mark = s.mark; depth = (face s).depth + 1 })) None → t ≡ cond (ltb (face s).depth 8) (opened s) s → Called R (seen fixed s) opens (ticket_id_answer r) (seen fixed t)
     open_call_step r e g =
         let d = view_depth n f s in
         let q = ltb (face s).depth 8 in
         by_test R (seen fixed s) (seen fixed t) (book_state fixed (opened (view n f s))) opens _ (ticket s.mark ((face (view n f s)).depth + 1)) too_deep (ltb (face (view n f s)).depth 8) q refl refl refl (ap (λ k. ltb k 8) d) refl
-        (ap stub_answer e ∙ open_told q s.mark (face s).depth (face (view n f s)).depth (sym d))
+        (ap ticket_id_answer e ∙ open_told q s.mark (face s).depth (face (view n f s)).depth (sym d))
         (ap (seen fixed) g ∙ seen_if fixed q (opened s) s)
 
-    pub end_call_step : n ≤ length s.rows → (e : Ending) (k : Stub) (r : Result (Unit {0}) Stub) → r ≡ cond (fits s k) (Ok tt) (Err k) → t ≡ cond (fits s k) (ended_as e s) s → Called R (seen fixed s) (ends e k.mark k.depth) (ending_answer_of r) (seen fixed t)
+    pub end_call_step : n ≤ length s.rows → (e : Ending) (k : TicketId) (r : Result (Unit {0}) TicketId) → r ≡ cond (fits s k) (Ok tt) (Err k) → t ≡ cond (fits s k) (ended_as e s) s → Called R (seen fixed s) (ends e k.mark k.depth) (ending_answer_of r) (seen fixed t)
     end_call_step l Keep k r e g =
         by_test R (seen fixed s) (seen fixed t) (seen fixed (kept s)) (keeps k.mark k.depth) _ done (not_innermost k.mark k.depth) _ (fits s k) refl refl refl (fits_seen s k) (ap (book_state fixed) (sym (view_kept n f s)))
         (end_told (fits s k) k r e)

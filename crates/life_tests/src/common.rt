@@ -1,7 +1,7 @@
 // What the tests share: steps of a life, and what is lent to it.
 use book::{
-    Answer, BookFault, Call, Creation, Edit, Ending, FinishedScript, Moment, PlainRow, RefusedStub,
-    ScriptFault, Snapshot, StoppedScript, Stub, UndoRecord,
+    Answer, BookFault, Call, Creation, Edit, Ending, FinishedScript, Moment, PlainRow,
+    RefusedTicketId, ScriptFault, Snapshot, StoppedScript, TicketId, UndoRecord,
 };
 use carriers::{Kind, Message, Wait};
 use detection::{Detection, RunRecord, Verdict};
@@ -44,20 +44,20 @@ pub fn detect(job: usize) -> Call<'static> {
 }
 
 pub fn ends(ending: Ending, mark: u16, depth: u8) -> Call<'static> {
-    let stub = Stub { mark, depth };
-    Call::End { ending, stub }
+    let id = TicketId { mark, depth };
+    Call::End { ending, id }
 }
 
-// The answer of an ending whose stub does not fit: the stub comes back.
+// The answer of an ending whose ticket id does not fit: the ticket id comes back.
 pub fn not_ended(mark: u16, depth: u8) -> Answer {
-    Answer::Ended(Err(RefusedStub {
+    Answer::Ended(Err(RefusedTicketId {
         fault: BookFault::NotInnermost,
-        stub: Stub { mark, depth },
+        id: TicketId { mark, depth },
     }))
 }
 
 pub fn opened(depth: u8) -> Answer {
-    Answer::Opened(Ok(Stub { mark: MARK, depth }))
+    Answer::Opened(Ok(TicketId { mark: MARK, depth }))
 }
 
 pub fn found(verdict: Verdict, deliveries: u32) -> Answer {

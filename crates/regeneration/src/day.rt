@@ -1,6 +1,6 @@
 // The day, call by call.
 use crate::names::Job;
-use book::{Call, Edit, Ending, Stub};
+use book::{Call, Edit, Ending, TicketId};
 
 /// The mark of the book's tickets.
 pub const MARK: u16 = 7;
@@ -71,8 +71,8 @@ fn grant(granter: Job, waiter: Job) -> Step<'static> {
 }
 
 fn end(ending: Ending, depth: u8) -> Step<'static> {
-    let stub = Stub { mark: MARK, depth };
-    plain(Call::End { ending, stub })
+    let id = TicketId { mark: MARK, depth };
+    plain(Call::End { ending, id })
 }
 
 fn detect(job: Job) -> Step<'static> {

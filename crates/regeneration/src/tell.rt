@@ -4,8 +4,8 @@ use crate::names::name_of;
 use crate::show::{row, waiting, word};
 use crate::trouble::Trouble;
 use book::{
-    Answer, BookFault, Call, Edit, Ending, FinishedScript, Moment, RefusedStub, Snapshot,
-    StoppedScript, Stub,
+    Answer, BookFault, Call, Edit, Ending, FinishedScript, Moment, RefusedTicketId, Snapshot,
+    StoppedScript, TicketId,
 };
 use detection::{Detection, Verdict};
 use std::io;
@@ -67,13 +67,13 @@ fn refused(rt: &HostRuntime, fault: BookFault) -> io::Result<()> {
     println!(rt; "the book refuses: {number}")
 }
 
-fn opened(rt: &HostRuntime, stub: Stub) -> io::Result<()> {
-    let depth = stub.depth;
+fn opened(rt: &HostRuntime, id: TicketId) -> io::Result<()> {
+    let depth = id.depth;
     println!(rt; "a group is opened at depth {depth}")
 }
 
-fn ended(rt: &HostRuntime, ending: Ending, stub: Stub) -> io::Result<()> {
-    let depth = stub.depth;
+fn ended(rt: &HostRuntime, ending: Ending, id: TicketId) -> io::Result<()> {
+    let depth = id.depth;
     let how = match ending {
         Ending::Keep => "kept",
         Ending::Cancel => "cancelled",
@@ -81,9 +81,9 @@ fn ended(rt: &HostRuntime, ending: Ending, stub: Stub) -> io::Result<()> {
     println!(rt; "the group at depth {depth} is {how}")
 }
 
-fn not_ended(rt: &HostRuntime, refused: RefusedStub) -> io::Result<()> {
+fn not_ended(rt: &HostRuntime, refused: RefusedTicketId) -> io::Result<()> {
     let number = refused.fault.number();
-    let depth = refused.stub.depth;
+    let depth = refused.id.depth;
     println!(rt; "the book refuses: {number}; the ticket of depth {depth} comes back")
 }
 
@@ -97,14 +97,14 @@ fn answered(
 ) -> Result<(), Trouble> {
     let told = match (call, moment.answer) {
         (Call::Edit(made), Answer::Edited(Ok(()))) => edited(rt, made, before, &moment.seen),
-        (Call::End { ending, stub }, Answer::Ended(Ok(()))) => ended(rt, ending, stub),
+        (Call::End { ending, id }, Answer::Ended(Ok(()))) => ended(rt, ending, id),
         (Call::Detect { job }, Answer::Detected(Ok(answer))) => found(rt, job, answer),
-        (_, Answer::Opened(Ok(stub))) => opened(rt, stub),
+        (_, Answer::Opened(Ok(id))) => opened(rt, id),
         (_, Answer::Ran(Ok(script))) => finished(rt, script, bytes),
         (_, Answer::Ran(Err(script))) => stopped(rt, script),
         (_, Answer::Edited(Err(fault))) => refused(rt, fault),
         (_, Answer::Opened(Err(fault))) => refused(rt, fault),
-        (_, Answer::Ended(Err(stub))) => not_ended(rt, stub),
+        (_, Answer::Ended(Err(id))) => not_ended(rt, id),
         (_, Answer::Detected(Err(fault))) => return Err(Trouble::NotDetected(fault)),
         // an answer is of the kind of its call
         (_, Answer::Edited(Ok(())) | Answer::Ended(Ok(())) | Answer::Detected(Ok(_))) => Ok(()),

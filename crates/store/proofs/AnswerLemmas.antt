@@ -12,7 +12,7 @@ use Rattle.rows.proofs.Laws.{sound_fits, grant_fits}
 use Rattle.rows.specs.Waiting.{Waiting, at, among}
 use Rattle.rows.specs.Changes.{wrong_counts, first_wrong, granted}
 use Rattle.rows.specs.StoredRows.{StoredWhole, waiting, waiting_of, seen_some, placed, requested, granted_by}
-use Rattle.groups.specs.declared.store.Stub.{Stub}
+use Rattle.groups.specs.declared.store.TicketId.{TicketId}
 use Rattle.groups.specs.StateViews.{view}
 use Rattle.groups.proofs.ViewLemmas.{view_written}
 use Rattle.groups.specs.State.{State, face, full, written, opened}
@@ -27,7 +27,7 @@ use Rattle.store.specs.EditAnswers.{refusal, refused_at}
 use Rattle.store.specs.Replies.{told, told_stub}
 use Rattle.histories.specs.Histories.{Called}
 use Rattle.store.specs.Memory.{Lawful}
-use Rattle.histories.proofs.TicketIdAnswers.{stub_answer}
+use Rattle.histories.proofs.TicketIdAnswers.{ticket_id_answer}
 use Rattle.histories.proofs.CallLemmas.{open_call_step, stopped_call_step, edit_call_step}
 use Rattle.store.proofs.LawfulMemory.{written_lawful}
 use Rattle.store.proofs.RowViews.{jobs_seen, wide}
@@ -39,11 +39,11 @@ use Rattle.store.specs.Books.{PlainBook, book_of}
 -- ---- groups
 
 -- an opening's answer
-opening_told : (r : Option Stub) → told_stub (ok_or r TooDeep) ≡ stub_answer r
+opening_told : (r : Option TicketId) → told_stub (ok_or r TooDeep) ≡ ticket_id_answer r
 opening_told (Some k) = refl
 opening_told None = refl
 
-pub opening_call_step : (n : ℕ) (s t : State PlainRow) (r : Option Stub) → r ≡ cond (ltb (face s).depth 8) (Some (record { mark = s.mark; depth = (face s).depth + 1 })) None → t ≡ cond (ltb (face s).depth 8) (opened s) s → Called plain (book_of (view n waiting s)) opens (told_stub (ok_or r TooDeep)) (book_of (view n waiting t))
+pub opening_call_step : (n : ℕ) (s t : State PlainRow) (r : Option TicketId) → r ≡ cond (ltb (face s).depth 8) (Some (record { mark = s.mark; depth = (face s).depth + 1 })) None → t ≡ cond (ltb (face s).depth 8) (opened s) s → Called plain (book_of (view n waiting s)) opens (told_stub (ok_or r TooDeep)) (book_of (view n waiting t))
 opening_call_step n s t r e f = rw (opening_told r) (open_call_step n waiting plain tt s t r e f)
 
 -- ---- edits

@@ -18,7 +18,7 @@ number TooDeep = 8
 number NotInnermost = 9
 
 -- The value, where it is a number: the place of the first wrong target, counted from 0. What refusal 9 brings back, a ticket or a
--- stub, stands beside the fault.
+-- ticket id, stands beside the fault.
 abbrev pub value : BookFault → Option ℕ
 value NoSuchJob = None
 value Blocked = None

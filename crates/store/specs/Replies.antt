@@ -1,10 +1,10 @@
 -- What the calls and answers of the program stand for.
 use Rattle.std.specs.Prelude.{Ok, Err, Result}
-use Rattle.groups.specs.declared.store.Stub.{Stub}
+use Rattle.groups.specs.declared.store.TicketId.{TicketId}
 use Rattle.store.specs.declared.calls.Edit.{Edit}
 use Rattle.store.specs.declared.calls.Edit.TheVariants.{Grant, Request}
 use Rattle.store.specs.declared.fault.BookFault.{BookFault}
-use Rattle.store.specs.declared.fault.RefusedStub.{RefusedStub}
+use Rattle.store.specs.declared.fault.RefusedTicketId.{RefusedTicketId}
 use Rattle.store.specs.Faults.{number}
 use Rattle.store.specs.Edits.{requests, grants, Edit as EditCall}
 use Rattle.histories.specs.Answers.{Answer, done, ticket, returned}
@@ -15,15 +15,15 @@ abbrev pub told : Result (Unit {0}) BookFault → Answer
 told (Ok u) = done
 told (Err fault) = refusal fault
 
--- Of an opening, by its stub: the ticket that tells the same; or its refusal.
-abbrev pub told_stub : Result Stub BookFault → Answer
+-- Of an opening, by its ticket id: the ticket that tells the same; or its refusal.
+abbrev pub told_stub : Result TicketId BookFault → Answer
 told_stub (Ok k) = ticket k.mark k.depth
 told_stub (Err fault) = refusal fault
 
--- Of an ending, by its stub: done, or its refusal with the stub that comes back.
-abbrev pub told_ending_by : Result (Unit {0}) RefusedStub → Answer
+-- Of an ending, by its ticket id: done, or its refusal with the ticket id that comes back.
+abbrev pub told_ending_by : Result (Unit {0}) RefusedTicketId → Answer
 told_ending_by (Ok u) = done
-told_ending_by (Err e) = returned (number e.fault) e.stub.mark e.stub.depth
+told_ending_by (Err e) = returned (number e.fault) e.id.mark e.id.depth
 
 -- The edit that a value of the program says.
 abbrev pub edit_of : Edit → EditCall

@@ -1,7 +1,7 @@
 // Why the book refuses a call.
 mod tells;
 
-use groups::Stub;
+use groups::TicketId;
 
 /// The refusals of the book's calls; docs/RULES.md has their numbers and the order of the checks.
 #[derive(Clone, Copy, PartialEq, Eq, Debug)]
@@ -17,9 +17,9 @@ pub enum BookFault {
     NotInnermost,
 }
 
-/// A refused ending, with its stub.
+/// A refused ending, with its ticket id.
 #[derive(Clone, Copy, Drop, PartialEq, Eq, Debug)]
-pub struct RefusedStub {
+pub struct RefusedTicketId {
     pub fault: BookFault,
-    pub stub: Stub,
+    pub id: TicketId,
 }

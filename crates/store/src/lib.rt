@@ -1,4 +1,4 @@
-// The plain store: which job waits for which, with groups of edits that are kept or cancelled, by stubs: who owns a store decides who may.
+// The plain store: which job waits for which, with groups of edits that are kept or cancelled, by ticket ids: who owns a store decides who may.
 #![tactic(auto)]
 
 mod calls;
@@ -8,6 +8,6 @@ mod store;
 mod stored;
 
 pub use calls::Edit;
-pub use fault::{BookFault, RefusedStub};
+pub use fault::{BookFault, RefusedTicketId};
 pub use snapshot::Snapshot;
 pub use store::Store;

@@ -15,9 +15,9 @@ use crate::life::moment::Moment;
 use crate::ticket::{RefusedEnding, Ticket};
 use carriers::Carrier;
 use detection::{RunRecord, detect};
-use groups::{Ending, Stub, UndoRecord};
+use groups::{Ending, TicketId, UndoRecord};
 use rows::PlainRow;
-use store::{BookFault, Edit, RefusedStub, Snapshot};
+use store::{BookFault, Edit, RefusedTicketId, Snapshot};
 
 /// What a life's creation takes besides the memory for the trail: the number of jobs, from 1 to 256, where any other number gives a book
 /// without jobs; and the mark of its tickets.
@@ -33,7 +33,7 @@ pub struct TooFewMoments;
 
 impl<'a> Book<'a> {
     // Opens a group, and takes its ticket apart.
-    fn open_apart(&mut self) -> Result<Stub, BookFault>
+    fn open_apart(&mut self) -> Result<TicketId, BookFault>
         ensures { Called plain self.old opens (told_stub result) self.new }
     {
         match self.open() {
@@ -42,20 +42,20 @@ impl<'a> Book<'a> {
         }
     }
 
-    // Ends the innermost group with a ticket that tells what the stub tells; where it is refused it is taken apart.
-    fn end_by(&mut self, ending: Ending, stub: Stub) -> Result<(), RefusedStub>
-        ensures { Called plain self.old (ends ending stub.mark stub.depth) (told_ending_by result) self.new }
+    // Ends the innermost group with a ticket that tells what the ticket id tells; where it is refused it is taken apart.
+    fn end_by(&mut self, ending: Ending, id: TicketId) -> Result<(), RefusedTicketId>
+        ensures { Called plain self.old (ends ending id.mark id.depth) (told_ending_by result) self.new }
     {
-        let ticket = Ticket::of(stub);
+        let ticket = Ticket::of(id);
         let ended = match ending {
             Ending::Keep => self.keep(ticket),
             Ending::Cancel => self.cancel(ticket),
         };
         match ended {
             Ok(()) => Ok(()),
-            Err(RefusedEnding { fault, ticket }) => Err(RefusedStub {
+            Err(RefusedEnding { fault, ticket }) => Err(RefusedTicketId {
                 fault,
-                stub: ticket.spent(),
+                id: ticket.spent(),
             }),
         }
     }
@@ -83,7 +83,7 @@ impl<'a> Book<'a> {
     {
         match call {
             Call::Open => Answer::Opened(self.open_apart()),
-            Call::End { ending, stub } => Answer::Ended(self.end_by(ending, stub)),
+            Call::End { ending, id } => Answer::Ended(self.end_by(ending, id)),
             Call::Detect { job } => Answer::Detected(detect(self, job, records, carrier)),
             Call::Edit(edit) => Answer::Edited(self.edit(edit)),
             Call::Run { script } => {

@@ -5,7 +5,7 @@ ghost use Rattle.groups.specs.Limits.{row_count, depth_max};
 ghost use Rattle.groups.specs.State.{face, full, can_open, fresh, written, opened, kept, cancelled, rolled_back, undo_record, state_with_undo_record};
 ghost use Rattle.groups.specs.TicketIds.{fits, ended_as};
 
-use crate::store::{Ending, Groups, ROWS, Stub, TRAIL_MAX, TrailFull, UndoRecord};
+use crate::store::{Ending, Groups, ROWS, TRAIL_MAX, TicketId, TrailFull, UndoRecord};
 use arrayvec::ArrayVec;
 use containers::{Container, Stack};
 
@@ -74,8 +74,8 @@ impl<'a, P: Copy> Groups<'a, P> {
         Ok(())
     }
 
-    /// Opens a group inside the others, and answers its stub; none, and nothing changed, if eight are open.
-    pub fn open(&mut self) -> Option<Stub>
+    /// Opens a group inside the others, and answers its ticket id; none, and nothing changed, if eight are open.
+    pub fn open(&mut self) -> Option<TicketId>
         ensures value { result ≡ (if can_open (face self.old) then Some (record { mark = self.old.mark; depth = (face self.old).depth + 1 }) else None) }
         ensures after { self.new ≡ (if can_open (face self.old) then opened self.old else self.old) }
     {
@@ -84,37 +84,37 @@ impl<'a, P: Copy> Groups<'a, P> {
         }
         self.starts.push(self.trail.len());
         let depth = self.depth() as u8;
-        Some(Stub {
+        Some(TicketId {
             mark: self.mark,
             depth,
         })
     }
 
-    /// The stub of the innermost group; where no group is open, it is no group's.
-    pub fn innermost(&self) -> Stub
+    /// The ticket id of the innermost group; where no group is open, it is no group's.
+    pub fn innermost(&self) -> TicketId
         ensures { result ≡ record { mark = self.now.mark; depth = length self.now.groups } }
     {
-        Stub {
+        TicketId {
             mark: self.mark,
             depth: self.depth() as u8,
         }
     }
 
-    // The stub is the innermost group's.
-    fn fits(&self, stub: Stub) -> bool
-        ensures { result ≡ fits self.now stub }
+    // The ticket id is the innermost group's.
+    fn fits(&self, id: TicketId) -> bool
+        ensures { result ≡ fits self.now id }
     {
         let depth = self.depth();
-        stub.mark == self.mark && stub.depth as usize == depth && depth > 0
+        id.mark == self.mark && id.depth as usize == depth && depth > 0
     }
 
-    /// Ends the innermost group: its writes stay, or are undone. A stub that is not that group's comes back, and nothing changes.
-    pub fn end(&mut self, ending: Ending, stub: Stub) -> Result<(), Stub>
-        ensures value { result ≡ (if fits self.old stub then Ok tt else Err stub) }
-        ensures after { self.new ≡ (if fits self.old stub then ended_as ending self.old else self.old) }
+    /// Ends the innermost group: its writes stay, or are undone. A ticket id that is not that group's comes back, and nothing changes.
+    pub fn end(&mut self, ending: Ending, id: TicketId) -> Result<(), TicketId>
+        ensures value { result ≡ (if fits self.old id then Ok tt else Err id) }
+        ensures after { self.new ≡ (if fits self.old id then ended_as ending self.old else self.old) }
     {
-        if !self.fits(stub) {
-            return Err(stub);
+        if !self.fits(id) {
+            return Err(id);
         }
         match ending {
             Ending::Keep => self.keep_innermost(),

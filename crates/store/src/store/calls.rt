@@ -17,9 +17,9 @@ ghost use Rattle.store.specs.Plain.{plain};
 ghost use Rattle.histories.specs.Rules.{book_state, says, after};
 
 use crate::calls::Edit;
-use crate::fault::{BookFault, RefusedStub};
+use crate::fault::{BookFault, RefusedTicketId};
 use crate::store::Store;
-use groups::{Ending, Groups, Stub, UndoRecord};
+use groups::{Ending, Groups, TicketId, UndoRecord};
 use rows::{PlainRow, Row};
 use tables::{JOBS_MAX, Table};
 
@@ -32,7 +32,7 @@ fn created(jobs: usize) -> usize
 }
 
 impl<'a> Store<'a> {
-    /// A book in which every job is active. Its stubs will carry the mark, and what its groups would undo lies in the
+    /// A book in which every job is active. Its ticket ids will carry the mark, and what its groups would undo lies in the
     /// lent memory. Where more than 256 jobs are asked for, it has none.
     pub fn new(jobs: usize, mark: u16, memory: &'a mut [UndoRecord<PlainRow>]) -> Store<'a>
         ensures value { result ≡ new_book jobs mark (length memory.old) }
@@ -88,28 +88,28 @@ impl<'a> Store<'a> {
         Ok(self.groups.write(job as u8, row.into())?)
     }
 
-    /// Opens a group inside the others, and answers its stub.
-    pub fn open(&mut self) -> Result<Stub, BookFault>
+    /// Opens a group inside the others, and answers its ticket id.
+    pub fn open(&mut self) -> Result<TicketId, BookFault>
         ensures { Called plain self.old opens (told_stub result) self.new }
     {
         self.groups.open().ok_or(BookFault::TooDeep)
     }
 
     /// Ends the innermost group: its edits stay, undone only if the group around it is cancelled; or every row is as it was when the
-    /// group was opened. A stub that is not the innermost group's comes back.
-    pub fn end(&mut self, ending: Ending, stub: Stub) -> Result<(), RefusedStub>
-        ensures { Called plain self.old (ends ending stub.mark stub.depth) (told_ending_by result) self.new }
+    /// group was opened. A ticket id that is not the innermost group's comes back.
+    pub fn end(&mut self, ending: Ending, id: TicketId) -> Result<(), RefusedTicketId>
+        ensures { Called plain self.old (ends ending id.mark id.depth) (told_ending_by result) self.new }
     {
-        match self.groups.end(ending, stub) {
+        match self.groups.end(ending, id) {
             Ok(()) => Ok(()),
-            Err(stub) => Err(RefusedStub {
+            Err(id) => Err(RefusedTicketId {
                 fault: BookFault::NotInnermost,
-                stub,
+                id,
             }),
         }
     }
 
-    /// Ends the innermost group, as its stub would.
+    /// Ends the innermost group, as its ticket id would.
     pub fn end_innermost(&mut self, ending: Ending)
         requires { 0 < length self.old.state.groups }
         ensures value { says plain self.old (ends ending self.old.state.mark (length self.old.state.groups)) ≡ done }

@@ -13,7 +13,7 @@ use Rattle.store.proofs.store.Store.end.Goals.{in-Ok, in-Err}
 pub invariant_of-self : goal.invariant_of-self
 invariant_of-self c =
     let b = c.self.inside in
-    rw c.end.ensures.after (lawful_if b.jobs b.groups c.self.invariant (fits b.groups c.args.stub) _ (ended_lawful b.jobs b.groups c.self.invariant c.args.ending))
+    rw c.end.ensures.after (lawful_if b.jobs b.groups c.self.invariant (fits b.groups c.args.id) _ (ended_lawful b.jobs b.groups c.self.invariant c.args.ending))
 
 pub returns : goal.returns
 returns c =
@@ -21,4 +21,4 @@ returns c =
     let e = c.end.ensures in
     let told : told_ending_by c.match-end.result ≡ ending_answer_of c.end.result =
     elim c.match-end.branch [ in-Ok w ↦ rw (w.result-is, w.in-Ok.is) refl | in-Err w ↦ rw (w.result-is, w.in-Err.is) refl ] in
-    rw (← c.self.view_is, told) (end_call_step b.jobs waiting plain tt b.groups c.end.new.self (wide b.jobs b.groups c.self.invariant) c.args.ending c.args.stub c.end.result e.value e.after)
+    rw (← c.self.view_is, told) (end_call_step b.jobs waiting plain tt b.groups c.end.new.self (wide b.jobs b.groups c.self.invariant) c.args.ending c.args.id c.end.result e.value e.after)
