@@ -4,7 +4,7 @@ use Rattle.std.proofs.lemmas.Bool.{or_parts, not-false, leb-false, ltb-false, lt
 use Rattle.rows.specs.Waiting.{at, among}
 use Rattle.tables.specs.Grants.{Grant, Allowed}
 use Rattle.tables.proofs.Laws.{who_waits_is_a_job}
-use Rattle.groups.specs.State.{face, full}
+use Rattle.groups.specs.State.{summary, full}
 use Rattle.histories.specs.Answers.{Answer, done}
 use Rattle.store.specs.EditAnswers.{refusal}
 use Rattle.histories.specs.Rules.{says}
@@ -33,7 +33,7 @@ module _ (s : PlainBook) (g : Grant) where
   waits = among g.granter (at s.state.rows g.waiter).targets
 
   abbrev held : Bool
-  held = full s.state.trail_room (face s.state)
+  held = full s.state.trail_room (summary s.state)
 
   accepted : says plain s (grant_call g) ≡ done → Allowed s.state.rows g × (held ≡ false)
   accepted h =

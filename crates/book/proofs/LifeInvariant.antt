@@ -6,7 +6,7 @@ use borrow.Rule.Slice.PartMut.{put_mid, post_of}
 use Rattle.carriers.specs.Meaning.{Carried}
 use Rattle.exchange.specs.declared.record.RunRecord.{RunRecord}
 use Rattle.lives.specs.Events.{begins, lives}
-use Rattle.store.specs.Creation.{new_book, new_terms}
+use Rattle.store.specs.Creation.{new_book, new_parameters}
 use Rattle.book.specs.Events.{BookEvent, LifeOfBook}
 use Rattle.scripts.specs.Workspace.{Lent, lent}
 use Rattle.book.specs.Moments.{answer_at, seen_at, written_by, AreEvents, nothing, then, Lived}
@@ -66,7 +66,7 @@ module _ (jobs mark memory : ℕ) (before : Lent) where
       → snapshot_view first ≡ view_of (of_book plain) (new_book jobs mark memory)
       → Alive ks ms s records carrier answers written → Lived jobs mark memory ks first ms before (lent records carrier answers)
   alive_lived {s = s} {records = records} {carrier = carrier} {answers = answers} {written = written} first seen alive =
-      let law = law_of_plain_books (new_terms jobs mark memory) in
+      let law = law_of_plain_books (new_parameters jobs mark memory) in
       let told = law.1 alive.events _ _ alive.life in
       record {
         events = alive.events;

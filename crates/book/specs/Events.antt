@@ -2,7 +2,7 @@
 use Rattle.std.specs.Prelude.{ℕ, List, Result}
 use Rattle.rows.specs.Waiting.{Waiting}
 use Rattle.groups.specs.History.{History}
-use Rattle.histories.specs.Rules.{Terms}
+use Rattle.histories.specs.Rules.{Parameters}
 use Rattle.histories.specs.Machines.{Subject, View, of_book, of_history}
 use Rattle.lives.specs.Events.{Event, special, Does, Life}
 use Rattle.store.specs.Edits.{Edit}
@@ -30,7 +30,7 @@ abbrev pub RunsOnBook : PlainBook → ScriptRun → PlainBook → Type 0
 RunsOnBook = RunsScript (of_book plain)
 
 -- To a history, which is then fed the calls that the script counts as.
-pub record RunsOnHistory (t : Terms Fixed) (h : History Edit) (r : ScriptRun) (i : History Edit) : Type 0 where
+pub record RunsOnHistory (t : Parameters Fixed) (h : History Edit) (r : ScriptRun) (i : History Edit) : Type 0 where
   pub does : RunsScript (of_history plain t) h r i
   pub counts : CountsAs (of_history plain t) h r.script r.answer i
 
@@ -51,5 +51,5 @@ abbrev pub LifeOfBook : (first : PlainBook) → List BookEvent → List (View Wa
 LifeOfBook = Life plain (of_book plain) RunsOnBook
 
 -- The life of a history.
-abbrev pub LifeOfHistory : Terms Fixed → (first : History Edit) → List BookEvent → List (View Waiting) → History Edit → Type 0
+abbrev pub LifeOfHistory : Parameters Fixed → (first : History Edit) → List BookEvent → List (View Waiting) → History Edit → Type 0
 LifeOfHistory t = Life plain (of_history plain t) (RunsOnHistory t)

@@ -12,7 +12,7 @@ use Rattle.store.specs.Edits.{Edit}
 use Rattle.histories.specs.Calls.{edits, opens, ends}
 use Rattle.lives.specs.Events.{made, detected}
 use Rattle.book.specs.Events.{BookEvent, scripted, LifeOfBook, LifeOfHistory}
-use Rattle.store.specs.Creation.{new_book, new_terms}
+use Rattle.store.specs.Creation.{new_book, new_parameters}
 use Rattle.scripts.specs.Workspace.{Lent}
 use Rattle.scripts.specs.ScriptRuns.{script_written}
 use Rattle.store.specs.Snapshots.{snapshot_view}
@@ -79,8 +79,8 @@ pub record Lived (jobs mark memory : ℕ) (calls : List Call) (first : Snapshot)
   pub book : PlainBook
   pub lived : LifeOfBook (new_book jobs mark memory) events (map seen_at moments) book
   pub history : History Edit
-  pub follows : LifeOfHistory (new_terms jobs mark memory) begun events (map seen_at moments) history
+  pub follows : LifeOfHistory (new_parameters jobs mark memory) begun events (map seen_at moments) history
   -- of the book the same is seen, by the law of lives
-  pub created : snapshot_view first ≡ view_of (of_history plain (new_terms jobs mark memory)) begun
+  pub created : snapshot_view first ≡ view_of (of_history plain (new_parameters jobs mark memory)) begun
   -- what is left of the lent memory: the bytes written stand before those that were not
   pub lent : after ≡ record { records = left.records; carrier = left.carrier; bytes = bytes ++ left.bytes }

@@ -2,7 +2,7 @@
 use Rattle.std.proofs.Common.{◌≡◌, ℕ, ◌+◌, Bool, true, false, cond, eqb, ltb, List, [], ◌∷◌, sym, refl, ap, ◌∙◌, append-nil, arith}
 use Rattle.std.proofs.lemmas.List.{set-set, set-get_or}
 use Rattle.std.proofs.lemmas.Bool.{eq-eqb, lt-ltb}
-use Rattle.groups.specs.State.{face, innermost, with_undo_record, merged, undo_record, opened}
+use Rattle.groups.specs.State.{summary, innermost, with_undo_record, merged, undo_record, opened}
 use Rattle.groups.proofs.RollBackLemmas.{same_state}
 use Rattle.book.specs.Calls.{edits, opens, keeps, cancels}
 use Rattle.book.specs.Rules.{BookState, book_state, Rules, changed, says, after}
@@ -14,18 +14,18 @@ module _ {P E K : Type 0} (R : Rules P E K) where
   opening s = book_state s.fixed (opened s.state)
 
   -- what an opening that gives a ticket says of it, and does
-  ticket_given : (s : BookState P K) (m d : ℕ) → ticket m d ≡ says R s opens → (m ≡ s.state.mark) × (d ≡ (face s.state).depth + 1) × (after R s opens ≡ opening s)
-  ticket_given s m d e = go (ltb (face s.state).depth 8) e
+  ticket_given : (s : BookState P K) (m d : ℕ) → ticket m d ≡ says R s opens → (m ≡ s.state.mark) × (d ≡ (summary s.state).depth + 1) × (after R s opens ≡ opening s)
+  ticket_given s m d e = go (ltb (summary s.state).depth 8) e
     where
-      go : (q : Bool) → ticket m d ≡ cond q (ticket s.state.mark ((face s.state).depth + 1)) too_deep → (m ≡ s.state.mark) × (d ≡ (face s.state).depth + 1) × (cond (accepted (cond q (ticket s.state.mark ((face s.state).depth + 1)) too_deep)) (opening s) s ≡ opening s)
+      go : (q : Bool) → ticket m d ≡ cond q (ticket s.state.mark ((summary s.state).depth + 1)) too_deep → (m ≡ s.state.mark) × (d ≡ (summary s.state).depth + 1) × (cond (accepted (cond q (ticket s.state.mark ((summary s.state).depth + 1)) too_deep)) (opening s) s ≡ opening s)
       go true h = (cc, cc, refl)
       go false h = absurd (cc h)
 
   -- an edit opens and ends no group
-  edited_depth : (s : BookState P K) (e : E) → (face (after R (opening s) (edits e)).state).depth ≡ (face s.state).depth + 1
+  edited_depth : (s : BookState P K) (e : E) → (summary (after R (opening s) (edits e)).state).depth ≡ (summary s.state).depth + 1
   edited_depth s e = go (accepted (says R (opening s) (edits e)))
     where
-      go : (q : Bool) → (face (cond q (changed R (opening s) (edits e)) (opening s)).state).depth ≡ (face s.state).depth + 1
+      go : (q : Bool) → (summary (cond q (changed R (opening s) (edits e)) (opening s)).state).depth ≡ (summary s.state).depth + 1
       go true = omega arith
       go false = omega arith
 
@@ -37,14 +37,14 @@ module _ {P E K : Type 0} (R : Rules P E K) where
       go false = refl
 
   -- the ticket of the opening fits after the edit
-  fits_still : (s : BookState P K) (e : E) (m d : ℕ) → m ≡ s.state.mark → d ≡ (face s.state).depth + 1 → innermost (after R (opening s) (edits e)).state.mark (face (after R (opening s) (edits e)).state) m d ≡ true
+  fits_still : (s : BookState P K) (e : E) (m d : ℕ) → m ≡ s.state.mark → d ≡ (summary s.state).depth + 1 → innermost (after R (opening s) (edits e)).state.mark (summary (after R (opening s) (edits e)).state) m d ≡ true
   fits_still s e m d p q =
       let a : eqb m (after R (opening s) (edits e)).state.mark ≡ true = eq-eqb _ _ (p ∙ sym (edited_mark s e)) in
-      let b : eqb d (face (after R (opening s) (edits e)).state).depth ≡ true = eq-eqb _ _ (q ∙ sym (edited_depth s e)) in
+      let b : eqb d (summary (after R (opening s) (edits e)).state).depth ≡ true = eq-eqb _ _ (q ∙ sym (edited_depth s e)) in
       let c : ltb 0 d ≡ true = lt-ltb _ _ (omega (arith, q)) in
       rw (a, b, c)
 
-  cancelled_round : (s : BookState P K) (e : E) (m d : ℕ) → m ≡ s.state.mark → d ≡ (face s.state).depth + 1 → after R (after R (opening s) (edits e)) (cancels m d) ≡ s
+  cancelled_round : (s : BookState P K) (e : E) (m d : ℕ) → m ≡ s.state.mark → d ≡ (summary s.state).depth + 1 → after R (after R (opening s) (edits e)) (cancels m d) ≡ s
   cancelled_round s e m d p q = rw (fits_still s e m d p q) (go (accepted (says R (opening s) (edits e))))
     where
       go : (r : Bool) → changed R (cond r (changed R (opening s) (edits e)) (opening s)) (cancels m d) ≡ s
@@ -59,7 +59,7 @@ module _ {P E K : Type 0} (R : Rules P E K) where
   recorded_groups [] x = refl
   recorded_groups (g ∷ gs) x = refl
 
-  kept_round : (s : BookState P K) (e : E) (m d : ℕ) → m ≡ s.state.mark → d ≡ (face s.state).depth + 1 → after R (after R (opening s) (edits e)) (keeps m d) ≡ cond (accepted (says R (opening s) (edits e))) (changed R s (edits e)) s
+  kept_round : (s : BookState P K) (e : E) (m d : ℕ) → m ≡ s.state.mark → d ≡ (summary s.state).depth + 1 → after R (after R (opening s) (edits e)) (keeps m d) ≡ cond (accepted (says R (opening s) (edits e))) (changed R s (edits e)) s
   kept_round s e m d p q = rw (fits_still s e m d p q) (go (accepted (says R (opening s) (edits e))))
     where
       go : (r : Bool) → changed R (cond r (changed R (opening s) (edits e)) (opening s)) (keeps m d) ≡ cond r (changed R s (edits e)) s
@@ -69,7 +69,7 @@ module _ {P E K : Type 0} (R : Rules P E K) where
   -- ---- from the promises of the calls: an opening that gives a ticket, and an edit
 
   module _ {s s₁ s₂ : BookState P K} {m d : ℕ} {e : E} {a : Answer} (first : Called R s opens (ticket m d) s₁) (second : Called R s₁ (edits e) a s₂) where
-    given : (m ≡ s.state.mark) × (d ≡ (face s.state).depth + 1) × (after R s opens ≡ opening s)
+    given : (m ≡ s.state.mark) × (d ≡ (summary s.state).depth + 1) × (after R s opens ≡ opening s)
     given = ticket_given s m d first.value
 
     edited : s₂ ≡ after R (opening s) (edits e)

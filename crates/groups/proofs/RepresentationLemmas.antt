@@ -2,8 +2,8 @@
 use Rattle.std.proofs.Common.{◌≡◌, ℕ, ◌+◌, List, [], ◌∷◌, ◌++◌, length, get_or, set, sym, refl, ap, ◌∙◌, subst, arith, length-append}
 use Rattle.std.proofs.lemmas.List.{length_push, set-set, set-get_or}
 use Rattle.groups.specs.declared.store.UndoRecord.{UndoRecord}
-use Rattle.groups.specs.State.{State, Face, face, total, undo_record, with_undo_record, merged, rolled_back, restored, outside, written, opened, kept, cancelled}
-use Rattle.groups.specs.History.{History, history, join, nest, merge, forget, made, drawn, history_face}
+use Rattle.groups.specs.State.{State, Summary, summary, total, undo_record, with_undo_record, merged, rolled_back, restored, outside, written, opened, kept, cancelled}
+use Rattle.groups.specs.History.{History, history, join, nest, merge, forget, made, drawn, history_summary}
 use Rattle.groups.specs.Representation.{Undoes, Shown, ShowsFrom}
 use Rattle.groups.proofs.RollBackLemmas.{rolled_back-++}
 
@@ -36,13 +36,13 @@ module _ {P C : Type 0} (job : C → ℕ) (next : List P → C → P) where
   undoes_used first o (g ∷ gs) rows [] w = absurd w
   undoes_used first o (g ∷ gs) rows (u ∷ us) w = omega (arith, w.1, undoes_used first o gs (rolled_back rows u) us w.2)
 
-  same_face : {rows rows' : List P} {d d' u u' : ℕ} → rows ≡ rows' → d ≡ d' → u ≡ u' → ◌≡◌ {A = Face P} (record { rows = rows; depth = d; recorded = u }) (record { rows = rows'; depth = d'; recorded = u' })
-  same_face a b c = cc
+  same_summary : {rows rows' : List P} {d d' u u' : ℕ} → rows ≡ rows' → d ≡ d' → u ≡ u' → ◌≡◌ {A = Summary P} (record { rows = rows; depth = d; recorded = u }) (record { rows = rows'; depth = d'; recorded = u' })
+  same_summary a b c = cc
 
   -- what a history's answers go by is what the state's go by
-  pub shows_face : (first : List P) (s : State P) (h : History C) → ShowsFrom job next first s h → face s ≡ history_face job next first h
-  shows_face first s (history o gs) w =
-      same_face (undoes_rows first o gs s.rows s.groups w) (undoes_depth first o gs s.rows s.groups w) (undoes_used first o gs s.rows s.groups w)
+  pub represents_summary : (first : List P) (s : State P) (h : History C) → ShowsFrom job next first s h → summary s ≡ history_summary job next first h
+  represents_summary first s (history o gs) w =
+      same_summary (undoes_rows first o gs s.rows s.groups w) (undoes_depth first o gs s.rows s.groups w) (undoes_used first o gs s.rows s.groups w)
 
   join_undoes : (first : List P) (o : List C) (gs : List (List C)) (c : C) (rows : List P) (us : List (List (UndoRecord P))) → Undoes job next first o gs rows us → Shown job next first (set rows (job c) (next rows c)) (with_undo_record us (undo_record rows (job c) (next rows c))) (join (history o gs) c)
   join_undoes first o [] c rows [] w = ap (λ r. set r (job c) (next r c)) w ∙ sym (made-++ first o (c ∷ []))

@@ -5,7 +5,7 @@ use lib.Seq.{take-set-lt}
 use Rattle.std.proofs.lemmas.List.{map-set, map-append, length-map, length-set, length-take-le, get_or-take, take-set-le, set_past, take-replicate}
 use Rattle.std.proofs.lemmas.Bool.{cases_lt}
 use Rattle.groups.specs.declared.store.UndoRecord.{UndoRecord}
-use Rattle.groups.specs.State.{State, face, total, undo_record, with_undo_record, merged, rolled_back, restored, outside, fresh, written, kept, cancelled}
+use Rattle.groups.specs.State.{State, summary, total, undo_record, with_undo_record, merged, rolled_back, restored, outside, fresh, written, kept, cancelled}
 use Rattle.groups.specs.StateViews.{undo_record_view, view}
 use Rattle.groups.proofs.RollBackLemmas.{same_state}
 
@@ -78,10 +78,10 @@ module _ {P Q : Type 0} (n : ℕ) (f : P → Q) where
   view_fresh k row mark memory l = same_state (ap (map f) (take-replicate n k row l) ∙ map_replicate f n row) refl refl refl
 
   -- as many groups, with as many undo records
-  pub view_depth : (s : State P) → (face (view n f s)).depth ≡ (face s).depth
+  pub view_depth : (s : State P) → (summary (view n f s)).depth ≡ (summary s).depth
   view_depth s = length-map s.groups (map (undo_record_view f))
 
-  pub view_used : (s : State P) → (face (view n f s)).recorded ≡ (face s).recorded
+  pub view_used : (s : State P) → (summary (view n f s)).recorded ≡ (summary s).recorded
   view_used s = total_map (undo_record_view f) s.groups
 
   -- there are n rows

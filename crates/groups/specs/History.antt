@@ -1,6 +1,6 @@
 -- The calls that still count: lists of them, and the rows that they draw.
 use Rattle.std.specs.Prelude.{ℕ, List, [], ◌∷◌, ◌++◌, length, slice_set}
-use Rattle.groups.specs.State.{Face, total}
+use Rattle.groups.specs.State.{Summary, total}
 
 -- The calls outside of groups, and those of each open group, the innermost group first.
 pub data History (C : Type 0) : Type 0 where
@@ -43,5 +43,5 @@ module _ {P C : Type 0} (job : C → ℕ) (next : List P → C → P) where
   drawn first o (g ∷ gs) = made (drawn first o gs) g
 
   -- What a history's answers go by.
-  abbrev pub history_face : List P → History C → Face P
-  history_face first (history o gs) = record { rows = drawn first o gs; depth = length gs; recorded = total gs }
+  abbrev pub history_summary : List P → History C → Summary P
+  history_summary first (history o gs) = record { rows = drawn first o gs; depth = length gs; recorded = total gs }

@@ -17,25 +17,25 @@ total [] = 0
 total (xs ∷ xss) = length xs + total xss
 
 -- What answers go by: the rows, how many groups are open, and how many records or calls these hold.
-pub record Face (P : Type 0) : Type 0 where
+pub record Summary (P : Type 0) : Type 0 where
   pub rows : List P
   pub depth : ℕ
   pub recorded : ℕ
 
 -- What the answers of a state go by.
-abbrev pub face : {P : Type 0} → State P → Face P
-face s = record { rows = s.rows; depth = length s.groups; recorded = total s.groups }
+abbrev pub summary : {P : Type 0} → State P → Summary P
+summary s = record { rows = s.rows; depth = length s.groups; recorded = total s.groups }
 
 -- The trail is full for the next write: a group is open, and the groups hold as many records as there is room.
-abbrev pub full : {P : Type 0} → ℕ → Face P → Bool
+abbrev pub full : {P : Type 0} → ℕ → Summary P → Bool
 full trail_room f = nat_lt 0 f.depth && nat_le trail_room f.recorded
 
 -- One more group may be opened.
-abbrev pub can_open : {P : Type 0} → Face P → Bool
+abbrev pub can_open : {P : Type 0} → Summary P → Bool
 can_open f = nat_lt f.depth depth_max
 
 -- A ticket id is the innermost group's: its mark is the right one, and its depth is the number of open groups, not 0.
-abbrev pub innermost : {P : Type 0} → ℕ → Face P → (mark depth : ℕ) → Bool
+abbrev pub innermost : {P : Type 0} → ℕ → Summary P → (mark depth : ℕ) → Bool
 innermost m f mark depth = mark == m && (depth == f.depth && nat_lt 0 depth)
 
 -- At first all rows are the same, and no group is open. The trail has as many records as the lent memory, at most 1,024.

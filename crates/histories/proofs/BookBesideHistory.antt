@@ -3,62 +3,62 @@ use Rattle.std.proofs.Common.{◌≡◌, Bool, true, false, cond, length, replic
 use Rattle.std.proofs.lemmas.List.{length-replicate}
 use Rattle.groups.specs.declared.store.Ending.{Ending}
 use Rattle.groups.specs.History.{History, begun}
-use Rattle.groups.specs.State.{face}
-use Rattle.groups.proofs.RepresentationLemmas.{shows_face}
+use Rattle.groups.specs.State.{summary}
+use Rattle.groups.proofs.RepresentationLemmas.{represents_summary}
 use Rattle.histories.specs.Answers.{accepted}
 use Rattle.histories.specs.Calls.{Call, edits, opens, keeps, cancels, ends}
-use Rattle.histories.specs.Rules.{Terms, BookState, terms, Rules, fresh_book, says, after, changed}
-use Rattle.histories.specs.Histories.{face_of, answers, fed, Shows}
+use Rattle.histories.specs.Rules.{Parameters, BookState, parameters, Rules, fresh_book, says, after, changed}
+use Rattle.histories.specs.Histories.{summary_of, answers, fed, Shows}
 use Rattle.histories.specs.Machines.{of_book, of_history, view_of}
 use Rattle.histories.proofs.SimulationLemmas.{length-changed, says_answers, after_shows, fresh_shows}
 
 module _ {P E K : Type 0} (R : Rules P E K) where
   -- no call changes what creation was told
-  terms_changed : (s : BookState P K) (c : Call E) → terms (changed R s c) ≡ terms s
-  terms_changed s (edits e) = ap (λ n. record { jobs = n; mark = s.state.mark; trail_room = s.state.trail_room; fixed = s.fixed }) (length-changed R s (edits e))
-  terms_changed s opens = refl
-  terms_changed s (keeps mark depth) = refl
-  terms_changed s (cancels mark depth) = ap (λ n. record { jobs = n; mark = s.state.mark; trail_room = s.state.trail_room; fixed = s.fixed }) (length-changed R s (cancels mark depth))
+  parameters_changed : (s : BookState P K) (c : Call E) → parameters (changed R s c) ≡ parameters s
+  parameters_changed s (edits e) = ap (λ n. record { jobs = n; mark = s.state.mark; trail_room = s.state.trail_room; fixed = s.fixed }) (length-changed R s (edits e))
+  parameters_changed s opens = refl
+  parameters_changed s (keeps mark depth) = refl
+  parameters_changed s (cancels mark depth) = ap (λ n. record { jobs = n; mark = s.state.mark; trail_room = s.state.trail_room; fixed = s.fixed }) (length-changed R s (cancels mark depth))
 
-  terms_after : (s : BookState P K) (c : Call E) → terms (after R s c) ≡ terms s
-  terms_after s c = go (accepted (says R s c))
+  parameters_after : (s : BookState P K) (c : Call E) → parameters (after R s c) ≡ parameters s
+  parameters_after s c = go (accepted (says R s c))
     where
-      go : (q : Bool) → terms (cond q (changed R s c) s) ≡ terms s
-      go true = terms_changed s c
+      go : (q : Bool) → parameters (cond q (changed R s c) s) ≡ parameters s
+      go true = parameters_changed s c
       go false = refl
 
-  -- A book of these terms that shows a history.
-  pub record Stands (t : Terms K) (s : BookState P K) (h : History E) : Type 0 where
-    pub told : terms s ≡ t
+  -- A book of these parameters that shows a history.
+  pub record Stands (t : Parameters K) (s : BookState P K) (h : History E) : Type 0 where
+    pub told : parameters s ≡ t
     pub shows : Shows R s h
 
-  module _ (t : Terms K) {s : BookState P K} {h : History E} (w : Stands t s h) where
-    pub same_face : face s.state ≡ face_of R t h
-    same_face = shows_face R.job_of R.next_row (replicate (length s.state.rows) R.idle) s.state h w.shows ∙ ap (λ u. face_of R u h) w.told
+  module _ (t : Parameters K) {s : BookState P K} {h : History E} (w : Stands t s h) where
+    pub same_summary : summary s.state ≡ summary_of R t h
+    same_summary = represents_summary R.job_of R.next_row (replicate (length s.state.rows) R.idle) s.state h w.shows ∙ ap (λ u. summary_of R u h) w.told
 
-    pub same_rows : s.state.rows ≡ (face_of R t h).rows
-    same_rows = ap (λ f. f.rows) same_face
+    pub same_rows : s.state.rows ≡ (summary_of R t h).rows
+    same_rows = ap (λ f. f.rows) same_summary
 
-    pub same_depth : length s.state.groups ≡ (face_of R t h).depth
-    same_depth = ap (λ f. f.depth) same_face
+    pub same_depth : length s.state.groups ≡ (summary_of R t h).depth
+    same_depth = ap (λ f. f.depth) same_summary
 
     pub same_mark : s.state.mark ≡ t.mark
-    same_mark = ap (λ (u : Terms K). u.mark) w.told
+    same_mark = ap (λ (u : Parameters K). u.mark) w.told
 
     pub same_answer : (c : Call E) → says R s c ≡ answers R t h c
     same_answer c = says_answers R s c h w.shows ∙ ap (λ u. answers R u h c) w.told
 
     pub stands_after : (c : Call E) → Stands t (after R s c) (fed R t h c)
-    stands_after c = record { told = terms_after s c ∙ w.told; shows = subst (λ u. Shows R (after R s c) (fed R u h c)) w.told (after_shows R s c h w.shows) }
+    stands_after c = record { told = parameters_after s c ∙ w.told; shows = subst (λ u. Shows R (after R s c) (fed R u h c)) w.told (after_shows R s c h w.shows) }
 
-    pub same_ending : (e : Ending) → ◌≡◌ {A = Call E} (ends e s.state.mark (length s.state.groups)) (ends e t.mark (face_of R t h).depth)
+    pub same_ending : (e : Ending) → ◌≡◌ {A = Call E} (ends e s.state.mark (length s.state.groups)) (ends e t.mark (summary_of R t h).depth)
     same_ending e = ap (λ m. ends {E = E} e m (length s.state.groups)) same_mark ∙ ap (ends {E = E} e t.mark) same_depth
 
     pub same_view : view_of (of_book R) s ≡ view_of (of_history R t) h
-    same_view = ap (λ rows. record { rows = rows; depth = length s.state.groups }) same_rows ∙ ap (λ d. record { rows = (face_of R t h).rows; depth = d }) same_depth
+    same_view = ap (λ rows. record { rows = rows; depth = length s.state.groups }) same_rows ∙ ap (λ d. record { rows = (summary_of R t h).rows; depth = d }) same_depth
 
   -- so it is at creation
-  pub fresh_stands : (t : Terms K) → Stands t (fresh_book R t) begun
+  pub fresh_stands : (t : Parameters K) → Stands t (fresh_book R t) begun
   fresh_stands t = record {
     told = ap (λ n. record { jobs = n; mark = t.mark; trail_room = t.trail_room; fixed = t.fixed }) (length-replicate t.jobs R.idle);
     shows = fresh_shows R t;

@@ -6,7 +6,7 @@ use Rattle.groups.specs.declared.store.TicketId.{TicketId}
 use Rattle.groups.specs.TicketIds.{fits, ended_as}
 use Rattle.groups.specs.StateViews.{view}
 use Rattle.groups.proofs.ViewLemmas.{view_kept, view_cancelled, view_depth, view_used}
-use Rattle.groups.specs.State.{State, Face, face, full, innermost, written, opened, kept, cancelled}
+use Rattle.groups.specs.State.{State, Summary, summary, full, innermost, written, opened, kept, cancelled}
 use Rattle.histories.specs.Answers.{Answer, done, ticket, accepted, trail_full, too_deep, not_innermost}
 use Rattle.histories.specs.Calls.{Call, edits, opens, keeps, cancels, ends}
 use Rattle.histories.specs.Histories.{Called}
@@ -15,7 +15,7 @@ use Rattle.histories.proofs.TicketIdAnswers.{ticket_id_answer, ending_answer_of}
 use Rattle.histories.proofs.SimulationLemmas.{called}
 
 -- a face decides the same where it counts the same
-full_same : {P Q : Type 0} (trail_room : ℕ) (f : Face P) (f' : Face Q) → f.depth ≡ f'.depth → f.recorded ≡ f'.recorded → full trail_room f ≡ full trail_room f'
+full_same : {P Q : Type 0} (trail_room : ℕ) (f : Summary P) (f' : Summary Q) → f.depth ≡ f'.depth → f.recorded ≡ f'.recorded → full trail_room f ≡ full trail_room f'
 full_same trail_room f f' d u = rw (d, u)
 
 open_told : (q : Bool) (m d d' : ℕ) → d ≡ d' → ticket_id_answer (cond {A = Option TicketId} q (Some (record { mark = m; depth = d + 1 })) None) ≡ cond q (ticket m (d' + 1)) too_deep
@@ -42,12 +42,12 @@ module _ {Q E K : Type 0} (R : Rules Q E K) where
       called R s (edits e) a s (h ∙ p) (ap (λ k. cond k (changed R s (edits e)) s) (sym refused ∙ ap accepted p))
 
   -- an edit that passes its own checks is stopped by a full trail alone
-  pub edit_call_step : (s t : BookState Q K) (e : E) (w : Q) (a : Answer) → w ≡ R.next_row s.state.rows e → says R s (edits e) ≡ cond (full s.state.trail_room (face s.state)) trail_full done → a ≡ cond (full s.state.trail_room (face s.state)) trail_full done → t ≡ cond (full s.state.trail_room (face s.state)) s (book_state s.fixed (written s.state (R.job_of e) w)) → Called R s (edits e) a t
+  pub edit_call_step : (s t : BookState Q K) (e : E) (w : Q) (a : Answer) → w ≡ R.next_row s.state.rows e → says R s (edits e) ≡ cond (full s.state.trail_room (summary s.state)) trail_full done → a ≡ cond (full s.state.trail_room (summary s.state)) trail_full done → t ≡ cond (full s.state.trail_room (summary s.state)) s (book_state s.fixed (written s.state (R.job_of e) w)) → Called R s (edits e) a t
   edit_call_step s t e w a is p f g =
       called R s (edits e) a t (f ∙ sym p)
       (g
-      ∙ ap (λ v. cond (full s.state.trail_room (face s.state)) s (book_state s.fixed (written s.state (R.job_of e) v))) is
-      ∙ go (full s.state.trail_room (face s.state))
+      ∙ ap (λ v. cond (full s.state.trail_room (summary s.state)) s (book_state s.fixed (written s.state (R.job_of e) v))) is
+      ∙ go (full s.state.trail_room (summary s.state))
       ∙ ap (λ k. cond (accepted k) (changed R s (edits e)) s) (sym p))
     where
       go : (b : Bool) → cond b s (changed R s (edits e)) ≡ cond (accepted (cond b trail_full done)) (changed R s (edits e)) s
@@ -55,10 +55,10 @@ module _ {Q E K : Type 0} (R : Rules Q E K) where
       go false = refl
 
 module _ {P : Type 0} (n : ℕ) {Q : Type 0} (f : P → Q) where
-  pub full_seen : (s : State P) → full s.trail_room (face (view n f s)) ≡ full s.trail_room (face s)
-  full_seen s = full_same s.trail_room (face (view n f s)) (face s) (view_depth n f s) (view_used n f s)
+  pub full_seen : (s : State P) → full s.trail_room (summary (view n f s)) ≡ full s.trail_room (summary s)
+  full_seen s = full_same s.trail_room (summary (view n f s)) (summary s) (view_depth n f s) (view_used n f s)
 
-  fits_seen : (s : State P) (t : TicketId) → innermost s.mark (face (view n f s)) t.mark t.depth ≡ fits s t
+  fits_seen : (s : State P) (t : TicketId) → innermost s.mark (summary (view n f s)) t.mark t.depth ≡ fits s t
   fits_seen s t = ap (λ k. eqb t.mark s.mark && (eqb t.depth k && ltb 0 t.depth)) (view_depth n f s)
 
   -- a book of such rows
@@ -70,12 +70,12 @@ module _ {P : Type 0} (n : ℕ) {Q : Type 0} (f : P → Q) where
   seen_if fixed false s t = refl
 
   module _ {E K : Type 0} (R : Rules Q E K) (fixed : K) (s t : State P) where
-    pub open_call_step : (r : Option TicketId) → r ≡ cond (ltb (face s).depth 8) (Some (record { mark = s.mark; depth = (face s).depth + 1 })) None → t ≡ cond (ltb (face s).depth 8) (opened s) s → Called R (seen fixed s) opens (ticket_id_answer r) (seen fixed t)
+    pub open_call_step : (r : Option TicketId) → r ≡ cond (ltb (summary s).depth 8) (Some (record { mark = s.mark; depth = (summary s).depth + 1 })) None → t ≡ cond (ltb (summary s).depth 8) (opened s) s → Called R (seen fixed s) opens (ticket_id_answer r) (seen fixed t)
     open_call_step r e g =
         let d = view_depth n f s in
-        let q = ltb (face s).depth 8 in
-        by_test R (seen fixed s) (seen fixed t) (book_state fixed (opened (view n f s))) opens _ (ticket s.mark ((face (view n f s)).depth + 1)) too_deep (ltb (face (view n f s)).depth 8) q refl refl refl (ap (λ k. ltb k 8) d) refl
-        (ap ticket_id_answer e ∙ open_told q s.mark (face s).depth (face (view n f s)).depth (sym d))
+        let q = ltb (summary s).depth 8 in
+        by_test R (seen fixed s) (seen fixed t) (book_state fixed (opened (view n f s))) opens _ (ticket s.mark ((summary (view n f s)).depth + 1)) too_deep (ltb (summary (view n f s)).depth 8) q refl refl refl (ap (λ k. ltb k 8) d) refl
+        (ap ticket_id_answer e ∙ open_told q s.mark (summary s).depth (summary (view n f s)).depth (sym d))
         (ap (seen fixed) g ∙ seen_if fixed q (opened s) s)
 
     pub end_call_step : n ≤ length s.rows → (e : Ending) (k : TicketId) (r : Result (Unit {0}) TicketId) → r ≡ cond (fits s k) (Ok tt) (Err k) → t ≡ cond (fits s k) (ended_as e s) s → Called R (seen fixed s) (ends e k.mark k.depth) (ending_answer_of r) (seen fixed t)

@@ -4,11 +4,11 @@ use Rattle.std.proofs.lemmas.List.{length-set, length-replicate}
 use Rattle.groups.specs.State.{State, undo_record, with_undo_record, merged, outside}
 use Rattle.groups.specs.History.{History, begun}
 use Rattle.groups.specs.Representation.{ShowsFrom}
-use Rattle.groups.proofs.RepresentationLemmas.{shows_face, write_shows, open_shows, keep_shows, cancel_shows}
+use Rattle.groups.proofs.RepresentationLemmas.{represents_summary, write_shows, open_shows, keep_shows, cancel_shows}
 use Rattle.groups.proofs.ViewLemmas.{length-restored}
 use Rattle.histories.specs.Calls.{Call, edits, opens, keeps, cancels}
 use Rattle.histories.specs.Answers.{Answer, accepted}
-use Rattle.histories.specs.Rules.{Terms, BookState, terms, Rules, fresh_book, answer, says, after, changed, changed_state}
+use Rattle.histories.specs.Rules.{Parameters, BookState, parameters, Rules, fresh_book, answer, says, after, changed, changed_state}
 use Rattle.histories.specs.Histories.{answers, listed, fed, depth_after, Shows, Follows, Called}
 
 -- how many groups are open after a call
@@ -39,11 +39,11 @@ module _ {P E K : Type 0} (R : Rules P E K) where
   changed_shows first s (keeps mark depth) h w = keep_shows R.job_of R.next_row first s h w
   changed_shows first s (cancels mark depth) h w = cancel_shows R.job_of R.next_row first s h w
 
-  pub says_answers : (s : BookState P K) (c : Call E) (h : History E) → Shows R s h → says R s c ≡ answers R (terms s) h c
-  says_answers s c h w = ap (λ f. answer R (terms s) f c) (shows_face R.job_of R.next_row (replicate (length s.state.rows) R.idle) s.state h w)
+  pub says_answers : (s : BookState P K) (c : Call E) (h : History E) → Shows R s h → says R s c ≡ answers R (parameters s) h c
+  says_answers s c h w = ap (λ f. answer R (parameters s) f c) (represents_summary R.job_of R.next_row (replicate (length s.state.rows) R.idle) s.state h w)
 
-  pub after_shows : (s : BookState P K) (c : Call E) (h : History E) → Shows R s h → Shows R (after R s c) (fed R (terms s) h c)
-  after_shows s c h w = go (accepted (says R s c)) (accepted (answers R (terms s) h c)) (ap accepted (says_answers s c h w))
+  pub after_shows : (s : BookState P K) (c : Call E) (h : History E) → Shows R s h → Shows R (after R s c) (fed R (parameters s) h c)
+  after_shows s c h w = go (accepted (says R s c)) (accepted (answers R (parameters s) h c)) (ap accepted (says_answers s c h w))
     where
       go : (a b : Bool) → a ≡ b → Shows R (cond a (changed R s c) s) (cond b (listed h c) h)
       go true true e = subst (λ n. ShowsFrom R.job_of R.next_row (replicate n R.idle) (changed_state R s.state c) (listed h c)) (sym (length-changed s c)) (changed_shows (replicate (length s.state.rows) R.idle) s.state c h w)
@@ -52,7 +52,7 @@ module _ {P E K : Type 0} (R : Rules P E K) where
       go false true e = absurd (cc e)
 
   follows : (s : BookState P K) (c : Call E) (a : Answer) (s' : BookState P K) → a ≡ says R s c → s' ≡ after R s c → Follows R s c a s'
-  follows s c a s' e f h w = (e ∙ says_answers s c h w, subst (λ t. Shows R t (fed R (terms s) h c)) (sym f) (after_shows s c h w))
+  follows s c a s' e f h w = (e ∙ says_answers s c h w, subst (λ t. Shows R t (fed R (parameters s) h c)) (sym f) (after_shows s c h w))
 
   -- no call changes the mark
   mark_after : (s : BookState P K) (c : Call E) → (after R s c).state.mark ≡ s.state.mark
@@ -85,5 +85,5 @@ module _ {P E K : Type 0} (R : Rules P E K) where
   }
 
   -- a new book shows the history in which nothing has happened
-  pub fresh_shows : (t : Terms K) → Shows R (fresh_book R t) begun
+  pub fresh_shows : (t : Parameters K) → Shows R (fresh_book R t) begun
   fresh_shows t = ap (λ k. replicate k R.idle) (sym (length-replicate t.jobs R.idle))

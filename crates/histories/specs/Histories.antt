@@ -1,11 +1,11 @@
 -- The history of a book: the calls that still count, and nothing of the book itself.
 use Rattle.std.specs.Prelude.{◌≡◌, ℕ, ◌+◌, ◌-◌, Bool, cond, length, replicate}
-use Rattle.groups.specs.State.{Face}
-use Rattle.groups.specs.History.{History, join, nest, merge, forget, history_face}
+use Rattle.groups.specs.State.{Summary}
+use Rattle.groups.specs.History.{History, join, nest, merge, forget, history_summary}
 use Rattle.groups.specs.Representation.{ShowsFrom}
 use Rattle.histories.specs.Answers.{Answer, accepted}
 use Rattle.histories.specs.Calls.{Call, edits, opens, keeps, cancels}
-use Rattle.histories.specs.Rules.{Terms, BookState, terms, Rules, answer, says, after}
+use Rattle.histories.specs.Rules.{Parameters, BookState, parameters, Rules, answer, says, after}
 
 -- What an accepted call does to the lists.
 abbrev pub listed : {E : Type 0} → History E → Call E → History E
@@ -23,15 +23,15 @@ depth_after (cancels mark d) taken depth = cond taken (depth - 1) depth
 
 module _ {P E K : Type 0} (R : Rules P E K) where
   -- The rows that the surviving calls draw on idle rows, the number of open groups, and how many calls these hold.
-  abbrev pub face_of : Terms K → History E → Face P
-  face_of t h = history_face R.job_of R.next_row (replicate t.jobs R.idle) h
+  abbrev pub summary_of : Parameters K → History E → Summary P
+  summary_of t h = history_summary R.job_of R.next_row (replicate t.jobs R.idle) h
 
   -- A history's answer goes by its own rows and lists.
-  abbrev pub answers : Terms K → History E → Call E → Answer
-  answers t h c = answer R t (face_of t h) c
+  abbrev pub answers : Parameters K → History E → Call E → Answer
+  answers t h c = answer R t (summary_of t h) c
 
   -- A history fed a call; a refused call changes no list.
-  abbrev pub fed : Terms K → History E → Call E → History E
+  abbrev pub fed : Parameters K → History E → Call E → History E
   fed t h c = cond (accepted (answers t h c)) (listed h c) h
 
   -- A book shows a history: same rows, same depth, and what the trail would undo.
@@ -40,7 +40,7 @@ module _ {P E K : Type 0} (R : Rules P E K) where
 
   -- Whatever history the book shows before a call: it answers as that history, and shows that history fed the call after.
   abbrev pub Follows : BookState P K → Call E → Answer → BookState P K → Type 0
-  Follows s c a s' = (h : History E) → Shows s h → (a ≡ answers (terms s) h c) × Shows s' (fed (terms s) h c)
+  Follows s c a s' = (h : History E) → Shows s h → (a ≡ answers (parameters s) h c) × Shows s' (fed (parameters s) h c)
 
   -- A call made on a book, with its answer: it answers and changes the book by the rules, and so follows its history. What tickets
   -- go by stands by itself: the mark, which stays, and how many groups are open.

@@ -3,8 +3,8 @@ use Rattle.std.specs.Prelude.{ℕ, List, length}
 use Rattle.groups.specs.History.{History}
 use Rattle.histories.specs.Answers.{Answer}
 use Rattle.histories.specs.Calls.{Call}
-use Rattle.histories.specs.Rules.{Terms, BookState, Rules, says, after}
-use Rattle.histories.specs.Histories.{face_of, answers, fed}
+use Rattle.histories.specs.Rules.{Parameters, BookState, Rules, says, after}
+use Rattle.histories.specs.Histories.{summary_of, answers, fed}
 
 -- What a subject answers to a call, what it is afterwards, and what can be seen of it; and the mark of its tickets.
 pub record Subject (P E X : Type 0) : Type 0 where
@@ -35,11 +35,11 @@ module _ {P E K : Type 0} (R : Rules P E K) where
   }
 
   -- A history: it knows what creation was told and the calls that still count, and nothing of a book.
-  abbrev pub of_history : Terms K → Subject P E (History E)
+  abbrev pub of_history : Parameters K → Subject P E (History E)
   of_history t = record {
     mark = λ h. t.mark;
     says = answers R t;
     after = fed R t;
-    rows = λ h. (face_of R t h).rows;
-    depth = λ h. (face_of R t h).depth;
+    rows = λ h. (summary_of R t h).rows;
+    depth = λ h. (summary_of R t h).depth;
   }

@@ -4,7 +4,7 @@ use Rattle.groups.specs.History.{History}
 use Rattle.detection.specs.Detects.{Detects}
 use Rattle.histories.specs.Answers.{Answer}
 use Rattle.histories.specs.Calls.{Call}
-use Rattle.histories.specs.Rules.{Terms, BookState, Rules}
+use Rattle.histories.specs.Rules.{Parameters, BookState, Rules}
 use Rattle.histories.specs.Histories.{Called}
 use Rattle.histories.specs.Machines.{of_book, of_history, View}
 use Rattle.histories.proofs.BookBesideHistory.{Stands, same_rows, same_answer, same_view, stands_after, fresh_stands}
@@ -16,12 +16,12 @@ module _ {P E K M : Type 0} (R : Rules P E K) (OnBook : BookState P K → M → 
   pub call_does : {s s' : BookState P K} {c : Call E} {a : Answer} → Called R s c a s' → Does R (of_book R) OnBook s (made c a) s'
   call_does k = rw (k.value, k.after) calls
 
-  module _ (OnHistory : Terms K → History E → M → History E → Type 0) where
+  module _ (OnHistory : Parameters K → History E → M → History E → Type 0) where
     -- What only this kind of book knows happens to the history too.
     abbrev pub HappensToHistory : Type 0
-    HappensToHistory = (t : Terms K) (s s' : BookState P K) (h : History E) (m : M) → Stands R t s h → OnBook s m s' → (i : History E) × OnHistory t h m i × Stands R t s' i
+    HappensToHistory = (t : Parameters K) (s s' : BookState P K) (h : History E) (m : M) → Stands R t s h → OnBook s m s' → (i : History E) × OnHistory t h m i × Stands R t s' i
 
-    module _ (follows : HappensToHistory) (t : Terms K) where
+    module _ (follows : HappensToHistory) (t : Parameters K) where
       does_so : {s s' : BookState P K} {h : History E} {e : Event E M} → Stands R t s h → Does R (of_book R) OnBook s e s'
           → (i : History E) × Does R (of_history R t) (OnHistory t) h e i × Stands R t s' i
       does_so {h = h} w (calls {c = c}) = (_, rw (same_answer R t w c) calls, stands_after R t w c)

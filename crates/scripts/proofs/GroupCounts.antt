@@ -2,11 +2,11 @@
 use Rattle.std.proofs.Common.{◌≡◌, ◌<◌, Bool, true, false, cond, [], ◌∷◌, refl, ap, arith}
 use Rattle.std.proofs.lemmas.Bool.{and_from, eq-eqb, lt-ltb}
 use Rattle.groups.specs.History.{History, history}
-use Rattle.groups.specs.State.{Face, face}
+use Rattle.groups.specs.State.{Summary, summary}
 use Rattle.histories.specs.Answers.{done, accepted, not_innermost}
 use Rattle.histories.specs.Calls.{Call, edits, opens, keeps, cancels}
-use Rattle.histories.specs.Histories.{answers, face_of, listed, depth_after}
-use Rattle.histories.specs.Rules.{Terms, terms, Rules, says, after, ending_answer}
+use Rattle.histories.specs.Histories.{answers, summary_of, listed, depth_after}
+use Rattle.histories.specs.Rules.{Parameters, parameters, Rules, says, after, ending_answer}
 use Rattle.histories.specs.Machines.{Subject, of_book, of_history}
 use Rattle.histories.proofs.SimulationLemmas.{called}
 
@@ -17,7 +17,7 @@ pub record CountsGroups {P E X : Type 0} (S : Subject P E X) : Type 0 where
   pub cancels : (x : X) → 0 < S.depth x → S.says x (cancels (S.mark x) (S.depth x)) ≡ done
 
 module _ {P E K : Type 0} (R : Rules P E K) where
-  fitting_ending : (t : Terms K) (f : Face P) → 0 < f.depth → ending_answer R t f t.mark f.depth ≡ done
+  fitting_ending : (t : Parameters K) (f : Summary P) → 0 < f.depth → ending_answer R t f t.mark f.depth ≡ done
   fitting_ending t f l =
       ap (λ q. cond q done (not_innermost t.mark f.depth))
       (and_from _ _ (eq-eqb t.mark t.mark refl) (and_from _ _ (eq-eqb f.depth f.depth refl) (lt-ltb 0 f.depth l)))
@@ -26,11 +26,11 @@ module _ {P E K : Type 0} (R : Rules P E K) where
   of_book_counts = record {
     mark = λ b c. (called R b c (says R b c) (after R b c) refl refl).mark;
     depth = λ b c. (called R b c (says R b c) (after R b c) refl refl).depth;
-    cancels = λ b l. fitting_ending (terms b) (face b.state) l;
+    cancels = λ b l. fitting_ending (parameters b) (summary b.state) l;
   }
 
-  module _ (t : Terms K) where
-    depth_listed : (h : History E) (c : Call E) (q : Bool) → (face_of R t (cond q (listed h c) h)).depth ≡ depth_after c q (face_of R t h).depth
+  module _ (t : Parameters K) where
+    depth_listed : (h : History E) (c : Call E) (q : Bool) → (summary_of R t (cond q (listed h c) h)).depth ≡ depth_after c q (summary_of R t h).depth
     depth_listed h (edits e) false = refl
     depth_listed h opens false = refl
     depth_listed h (keeps mark depth) false = refl
@@ -48,5 +48,5 @@ module _ {P E K : Type 0} (R : Rules P E K) where
     of_history_counts = record {
       mark = λ h c. refl;
       depth = λ h c. depth_listed h c (accepted (answers R t h c));
-      cancels = λ h l. fitting_ending t (face_of R t h) l;
+      cancels = λ h l. fitting_ending t (summary_of R t h) l;
     }

@@ -12,8 +12,8 @@ use Rattle.histories.specs.Rules.{says, after}
 use Rattle.store.specs.Edits.{Edit}
 use Rattle.histories.specs.Calls.{edits, opens, cancels, ends}
 use Rattle.scripts.specs.Commands.{Command}
-use Rattle.histories.specs.Histories.{face_of, fed}
-use Rattle.histories.specs.Rules.{Terms, terms}
+use Rattle.histories.specs.Histories.{summary_of, fed}
+use Rattle.histories.specs.Rules.{Parameters, parameters}
 use Rattle.scripts.specs.Workspace.{Lent}
 use Rattle.scripts.specs.ScriptRuns.{RanScript}
 use Rattle.scripts.specs.Scripts.{Progress, CarriesOut, edited, opened, ended, answered, Stops, not_edited, not_opened, no_group, no_space, not_detected, Steps, carries, stops, strange, Reads, finishes, faults, steps, cancel_groups, script_answer, Worked, Refused, Scripted}
@@ -23,7 +23,7 @@ use Rattle.histories.proofs.BookBesideHistory.{Stands, same_answer, stands_after
 use Rattle.store.specs.Plain.{plain}
 use Rattle.store.specs.Books.{PlainBook, Fixed}
 
-module _ (t : Terms Fixed) where
+module _ (t : Parameters Fixed) where
   -- the same progress, on a history
   abbrev on : Progress PlainBook → History Edit → Progress (History Edit)
   on p h = record { subject = h; lent = p.lent; written = p.written; groups = p.groups }
@@ -34,7 +34,7 @@ module _ (t : Terms Fixed) where
   carries_so {p} {h = h} w (opened a) = (fed plain t h opens, opened (sym (same_answer plain t w opens) ∙ a), stands_after plain t w opens)
   carries_so {p} {h = h} w (ended {e = e} l a) =
       let s = p.subject in
-      let call = ends e t.mark (face_of plain t h).depth in
+      let call = ends e t.mark (summary_of plain t h).depth in
       let same = same_ending plain t w e in (
         fed plain t h call,
         ended l (sym (same_answer plain t w call) ∙ ap (says plain s) (sym same) ∙ a),
@@ -68,7 +68,7 @@ module _ (t : Terms Fixed) where
   cancelled_so : (n : ℕ) {s : PlainBook} {h : History Edit} → Stands plain t s h → Stands plain t (cancel_groups (of_book plain) n s) (cancel_groups (of_history plain t) n h)
   cancelled_so zero w = w
   cancelled_so (suc n) {s} {h} w =
-      let call = cancels t.mark (face_of plain t h).depth in
+      let call = cancels t.mark (summary_of plain t h).depth in
       let same = ap (λ m. cancels m (length s.state.groups)) (same_mark plain t w) ∙ ap (cancels t.mark) (same_depth plain t w) in
       cancelled_so n (subst (λ k. Stands plain t (after plain s k) (fed plain t h call)) (sym same) (stands_after plain t w call))
 
@@ -96,7 +96,7 @@ module _ (t : Terms Fixed) where
   scripted_so l l' script a w k = scripted_if (nat_lt script_max (length script)) l l' script a w k
 
 pub ran : {s s' : PlainBook} (l l' : Lent) (script : List ℕ) (a : Result FinishedScript StoppedScript) → Scripted (of_book plain) s l script a s' l' → RanScript s l script a s' l'
-ran {s} l l' script a k = record { does = k; shows = λ h w. let r = scripted_so (terms s) l l' script a (record { told = refl; shows = w }) k in (r.0, r.1, r.2.shows) }
+ran {s} l l' script a k = record { does = k; shows = λ h w. let r = scripted_so (parameters s) l l' script a (record { told = refl; shows = w }) k in (r.0, r.1, r.2.shows) }
 
 -- a script that is not too long
 pub worked_ran : {s s' : PlainBook} {l l' : Lent} {script : List ℕ} {a : Result FinishedScript StoppedScript} → length script ≤ script_max → Worked (of_book plain) s l script a s' l' → RanScript s l script a s' l'

@@ -2,7 +2,7 @@
 use Rattle.std.specs.Prelude.{ℕ, List, Ok, Err, Result}
 use Rattle.groups.specs.History.{History}
 use Rattle.store.specs.Edits.{Edit}
-use Rattle.histories.specs.Rules.{terms}
+use Rattle.histories.specs.Rules.{parameters}
 use Rattle.histories.specs.Histories.{Shows}
 use Rattle.scripts.specs.Workspace.{Lent}
 use Rattle.scripts.specs.Scripts.{Scripted}
@@ -16,7 +16,7 @@ use Rattle.store.specs.Books.{PlainBook}
 -- the one that the book shows after.
 pub record RanScript (s : PlainBook) (l : Lent) (script : List ℕ) (answer : Result FinishedScript StoppedScript) (s' : PlainBook) (l' : Lent) : Type 0 where
   pub does : Scripted (of_book plain) s l script answer s' l'
-  pub shows : (h : History Edit) → Shows plain s h → (h' : History Edit) × Scripted (of_history plain (terms s)) h l script answer h' l' × Shows plain s' h'
+  pub shows : (h : History Edit) → Shows plain s h → (h' : History Edit) × Scripted (of_history plain (parameters s)) h l script answer h' l' × Shows plain s' h'
 
 -- How many answer bytes a script has written.
 abbrev pub script_written : Result FinishedScript StoppedScript → ℕ

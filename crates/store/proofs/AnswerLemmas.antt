@@ -15,7 +15,7 @@ use Rattle.rows.specs.StoredRows.{StoredWhole, waiting, waiting_of, seen_some, p
 use Rattle.groups.specs.declared.store.TicketId.{TicketId}
 use Rattle.groups.specs.StateViews.{view}
 use Rattle.groups.proofs.ViewLemmas.{view_written}
-use Rattle.groups.specs.State.{State, face, full, written, opened}
+use Rattle.groups.specs.State.{State, summary, full, written, opened}
 use Rattle.store.specs.declared.fault.BookFault.{BookFault}
 use Rattle.store.specs.declared.fault.BookFault.TheVariants.{NoSuchJob, Blocked, WrongCounts, TrailFull, GranterBlocked, NoSuchWait, TooDeep}
 use Rattle.store.specs.Faults.{of_row}
@@ -43,7 +43,7 @@ opening_told : (r : Option TicketId) → told_stub (ok_or r TooDeep) ≡ ticket_
 opening_told (Some k) = refl
 opening_told None = refl
 
-pub opening_call_step : (n : ℕ) (s t : State PlainRow) (r : Option TicketId) → r ≡ cond (ltb (face s).depth 8) (Some (record { mark = s.mark; depth = (face s).depth + 1 })) None → t ≡ cond (ltb (face s).depth 8) (opened s) s → Called plain (book_of (view n waiting s)) opens (told_stub (ok_or r TooDeep)) (book_of (view n waiting t))
+pub opening_call_step : (n : ℕ) (s t : State PlainRow) (r : Option TicketId) → r ≡ cond (ltb (summary s).depth 8) (Some (record { mark = s.mark; depth = (summary s).depth + 1 })) None → t ≡ cond (ltb (summary s).depth 8) (opened s) s → Called plain (book_of (view n waiting s)) opens (told_stub (ok_or r TooDeep)) (book_of (view n waiting t))
 opening_call_step n s t r e f = rw (opening_told r) (open_call_step n waiting plain tt s t r e f)
 
 -- ---- edits
@@ -119,7 +119,7 @@ module _ (s : PlainBook) (n : ℕ) (jobs : n ≡ length s.state.rows) where
         let r : ltb 0 (at s.state.rows job).need ≡ true = lt-ltb _ _ b in
         refused (requests job need targets) Blocked (rw (q, r))
 
-    request_says : job < n → (at s.state.rows job).need ≤ 0 → says plain s (edits (requests job need targets)) ≡ stop_of (requested n job need targets) (cond (full s.state.trail_room (face s.state)) (refusal TrailFull) done)
+    request_says : job < n → (at s.state.rows job).need ≤ 0 → says plain s (edits (requests job need targets)) ≡ stop_of (requested n job need targets) (cond (full s.state.trail_room (summary s.state)) (refusal TrailFull) done)
     request_says l b =
         let q : leb (length s.state.rows) job ≡ false = lt-leb _ _ (omega (arith, jobs)) in
         let r : ltb 0 (at s.state.rows job).need ≡ false = le-ltb _ _ b in
@@ -128,13 +128,13 @@ module _ (s : PlainBook) (n : ℕ) (jobs : n ≡ length s.state.rows) where
     pub no_row : job < n → (at s.state.rows job).need ≤ 0 → (e : RowFault) (r : Result (Unit {0}) BookFault) → Err e ≡ requested n job need targets → IsErrAnd r (λ y. y ≡ of_row e) → Called plain s (edits (requests job need targets)) (told r) s
     no_row l b e r f h =
         stopped_call_step plain s (requests job need targets) (told r) (refusal (of_row e)) refl (carried_fault r (of_row e) h)
-        (sym (request_says l b ∙ ap (λ k. stop_of k (cond (full s.state.trail_room (face s.state)) (refusal TrailFull) done)) (sym f)))
+        (sym (request_says l b ∙ ap (λ k. stop_of k (cond (full s.state.trail_room (summary s.state)) (refusal TrailFull) done)) (sym f)))
 
-    pub request_call_step : job < n → (at s.state.rows job).need ≤ 0 → (w : Waiting) (a : Answer) (t : PlainBook) → Ok w ≡ requested n job need targets → a ≡ cond (full s.state.trail_room (face s.state)) (refusal TrailFull) done → t ≡ cond (full s.state.trail_room (face s.state)) s (book_state s.fixed (written s.state job w)) → Called plain s (edits (requests job need targets)) a t
+    pub request_call_step : job < n → (at s.state.rows job).need ≤ 0 → (w : Waiting) (a : Answer) (t : PlainBook) → Ok w ≡ requested n job need targets → a ≡ cond (full s.state.trail_room (summary s.state)) (refusal TrailFull) done → t ≡ cond (full s.state.trail_room (summary s.state)) s (book_state s.fixed (written s.state job w)) → Called plain s (edits (requests job need targets)) a t
     request_call_step l b w a t f g h =
         edit_call_step plain s t (requests job need targets) w a
         (sym (placed_is (wrong_counts need (length targets)) (first_wrong n job 0 0 targets) (record { need = need; targets = targets }) w (sym f)))
-        (request_says l b ∙ ap (λ k. stop_of k (cond (full s.state.trail_room (face s.state)) (refusal TrailFull) done)) (sym f))
+        (request_says l b ∙ ap (λ k. stop_of k (cond (full s.state.trail_room (summary s.state)) (refusal TrailFull) done)) (sym f))
         g h
 
   module _ (granter waiter : ℕ) where
@@ -152,7 +152,7 @@ module _ (s : PlainBook) (n : ℕ) (jobs : n ≡ length s.state.rows) where
         let r : ltb 0 (at s.state.rows granter).need ≡ true = lt-ltb _ _ b in
         refused (grants granter waiter) GranterBlocked (rw (both l m, r))
 
-    grant_says : granter < n → waiter < n → (at s.state.rows granter).need ≤ 0 → says plain s (edits (grants granter waiter)) ≡ cond (not (among granter (at s.state.rows waiter).targets)) (refusal NoSuchWait) (cond (full s.state.trail_room (face s.state)) (refusal TrailFull) done)
+    grant_says : granter < n → waiter < n → (at s.state.rows granter).need ≤ 0 → says plain s (edits (grants granter waiter)) ≡ cond (not (among granter (at s.state.rows waiter).targets)) (refusal NoSuchWait) (cond (full s.state.trail_room (summary s.state)) (refusal TrailFull) done)
     grant_says l m b =
         let r : ltb 0 (at s.state.rows granter).need ≡ false = le-ltb _ _ b in
         rw (both l m, r)
@@ -161,14 +161,14 @@ module _ (s : PlainBook) (n : ℕ) (jobs : n ≡ length s.state.rows) where
     no_wait l m b None e r f g h =
         let same : e ≡ NoSuchWait = cc g in
         stopped_call_step plain s (grants granter waiter) (told r) (refusal NoSuchWait) refl (carried_fault r e h ∙ ap refusal same)
-        (sym (grant_says l m b ∙ ap (λ q. cond (not q) (refusal NoSuchWait) (cond (full s.state.trail_room (face s.state)) (refusal TrailFull) done)) (grant_none granter (at s.state.rows waiter) f)))
+        (sym (grant_says l m b ∙ ap (λ q. cond (not q) (refusal NoSuchWait) (cond (full s.state.trail_room (summary s.state)) (refusal TrailFull) done)) (grant_none granter (at s.state.rows waiter) f)))
     no_wait l m b (Some w) e r f g h = absurd (cc g)
 
-    pub grant_call_step : granter < n → waiter < n → (at s.state.rows granter).need ≤ 0 → (w : Waiting) (a : Answer) (t : PlainBook) → Some w ≡ granted_by granter (at s.state.rows waiter) → a ≡ cond (full s.state.trail_room (face s.state)) (refusal TrailFull) done → t ≡ cond (full s.state.trail_room (face s.state)) s (book_state s.fixed (written s.state waiter w)) → Called plain s (edits (grants granter waiter)) a t
+    pub grant_call_step : granter < n → waiter < n → (at s.state.rows granter).need ≤ 0 → (w : Waiting) (a : Answer) (t : PlainBook) → Some w ≡ granted_by granter (at s.state.rows waiter) → a ≡ cond (full s.state.trail_room (summary s.state)) (refusal TrailFull) done → t ≡ cond (full s.state.trail_room (summary s.state)) s (book_state s.fixed (written s.state waiter w)) → Called plain s (edits (grants granter waiter)) a t
     grant_call_step l m b w a t e g h =
         let some = grant_some granter (at s.state.rows waiter) w e in
         edit_call_step plain s t (grants granter waiter) w a some.1
-        (grant_says l m b ∙ ap (λ q. cond (not q) (refusal NoSuchWait) (cond (full s.state.trail_room (face s.state)) (refusal TrailFull) done)) some.0)
+        (grant_says l m b ∙ ap (λ q. cond (not q) (refusal NoSuchWait) (cond (full s.state.trail_room (summary s.state)) (refusal TrailFull) done)) some.0)
         g h
 
     pub granted_fits : lawful s.state.rows ≡ true → waiter < n → (w : Waiting) → Some w ≡ granted_by granter (at s.state.rows waiter) → row_fits (length s.state.rows) waiter w ≡ true

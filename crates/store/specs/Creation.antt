@@ -2,7 +2,7 @@
 use Rattle.std.specs.Prelude.{ℕ, min, cond, nat_le}
 use Rattle.tables.specs.Tables.{jobs_max}
 use Rattle.groups.specs.Limits.{trail_max}
-use Rattle.histories.specs.Rules.{Terms, fresh_book}
+use Rattle.histories.specs.Rules.{Parameters, fresh_book}
 use Rattle.store.specs.Books.{Fixed, PlainBook}
 use Rattle.store.specs.Plain.{plain}
 
@@ -12,9 +12,9 @@ created jobs = cond (nat_le jobs jobs_max) jobs 0
 
 -- What creation fixes, by what it takes: how many jobs are asked for, the mark, and how many undo records the lent memory holds, of which
 -- no more than 1,024 are used.
-abbrev pub new_terms : (jobs mark memory : ℕ) → Terms Fixed
-new_terms jobs mark memory = record { jobs = created jobs; mark = mark; trail_room = min memory trail_max; fixed = tt }
+abbrev pub new_parameters : (jobs mark memory : ℕ) → Parameters Fixed
+new_parameters jobs mark memory = record { jobs = created jobs; mark = mark; trail_room = min memory trail_max; fixed = tt }
 
 -- The new book.
 abbrev pub new_book : (jobs mark memory : ℕ) → PlainBook
-new_book jobs mark memory = fresh_book plain (new_terms jobs mark memory)
+new_book jobs mark memory = fresh_book plain (new_parameters jobs mark memory)

@@ -2,9 +2,9 @@
 use Rattle.std.specs.Prelude.{ℕ, cond, not, ◌||◌, length, Some, None, Option, nat_le, nat_lt}
 use Rattle.rows.specs.Waiting.{Waiting, at, among}
 use Rattle.rows.specs.Changes.{wrong_counts, first_wrong}
-use Rattle.groups.specs.State.{Face, full}
+use Rattle.groups.specs.State.{Summary, full}
 use Rattle.histories.specs.Answers.{Answer, done, stopped, trail_full}
-use Rattle.histories.specs.Rules.{Terms}
+use Rattle.histories.specs.Rules.{Parameters}
 use Rattle.store.specs.declared.fault.BookFault.{BookFault}
 use Rattle.store.specs.Faults.{number, value}
 use Rattle.store.specs.Edits.{Edit, requests, grants}
@@ -21,7 +21,7 @@ refused_at (Some place) answer = stopped 4 (Some place)
 
 -- The checks of a request: 1, no such job; 2, the job is blocked; 3, wrong counts; 4, a wrong target; 5, the trail is full. And those of a
 -- grant: 1, no such job; 6, the granter is blocked; 7, no such wait; 5.
-abbrev pub edit_answer : Terms Fixed → Face Waiting → Edit → Answer
+abbrev pub edit_answer : Parameters Fixed → Summary Waiting → Edit → Answer
 edit_answer t f (requests job need targets) =
     cond (nat_le t.jobs job) (stopped 1 None)
     (cond (nat_lt 0 (at f.rows job).need) (stopped 2 None)

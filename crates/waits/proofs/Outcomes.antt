@@ -5,7 +5,7 @@ use Rattle.carriers.specs.CountedCarriers.{new_carrier}
 use Rattle.carriers.specs.Meaning.{Carried}
 use Rattle.exchange.specs.Records.{blank}
 use Rattle.exchange.specs.declared.record.RunRecord.{RunRecord}
-use Rattle.book.specs.Rules.{terms}
+use Rattle.book.specs.Rules.{parameters}
 use Rattle.book.specs.Histories.{Shows}
 use Rattle.book.specs.ScriptRuns.{RanScript}
 use Rattle.book.specs.Workspace.{lent}
@@ -27,7 +27,7 @@ comes_out {s} {s'} {was} {records} {before} {carrier} {script} {bytes} {bytes'} 
       history = r.0;
       records = records;
       carrier = carrier;
-      scripted = rw (← blanks, ← empty) (subst (λ t. Scripted (of_history plain (terms t)) begun (lent was before bytes) script a r.0 (lent records carrier bytes')) new r.1);
+      scripted = rw (← blanks, ← empty) (subst (λ t. Scripted (of_history plain (parameters t)) begun (lent was before bytes) script a r.0 (lent records carrier bytes')) new r.1);
     }
 
 -- what holds of a success

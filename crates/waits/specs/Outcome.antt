@@ -6,7 +6,7 @@ use Rattle.exchange.specs.declared.record.RunRecord.{RunRecord}
 use Rattle.carriers.specs.Meaning.{Carried}
 use Rattle.groups.specs.History.{History, begun}
 use Rattle.book.specs.Edits.{Edit}
-use Rattle.book.specs.Rules.{Terms}
+use Rattle.book.specs.Rules.{Parameters}
 use Rattle.book.specs.Scripts.{Scripted}
 use Rattle.book.specs.Workspace.{lent}
 use Rattle.book.specs.Machines.{of_history}
@@ -15,7 +15,7 @@ use Rattle.book.specs.FinishedScript.{FinishedScript}
 use Rattle.tables.specs.Tables.{jobs_max, waits_max}
 use Rattle.groups.specs.Limits.{trail_max}
 use Rattle.exchange.specs.Bounds.{capacity_per_wait}
-use Rattle.book.specs.Creation.{new_terms}
+use Rattle.book.specs.Creation.{new_parameters}
 use Rattle.book.specs.Plain.{plain}
 use Rattle.book.specs.Books.{Fixed}
 
@@ -32,8 +32,8 @@ abbrev pub program_queue : ℕ
 program_queue = capacity_per_wait * waits_max
 
 -- A new book. Any mark would do, since a script hands out no ticket.
-abbrev pub program_terms : Terms Fixed
-program_terms = new_terms program_jobs 7 program_trail
+abbrev pub program_parameters : Parameters Fixed
+program_parameters = new_parameters program_jobs 7 program_trail
 
 -- The answer, and the answer bytes, are those that the rules give a script on the history of a new book, with a blank record for each
 -- job, and an empty carrier. That this is a queue is not told.
@@ -41,4 +41,4 @@ pub record ComesOut (script bytes : List ℕ) (answer : Result FinishedScript St
   pub history : History Edit
   pub records : List RunRecord
   pub carrier : Carried
-  pub scripted : Scripted (of_history plain program_terms) begun (lent (replicate program_jobs blank) (new_carrier program_queue) bytes) script answer history (lent records carrier bytes')
+  pub scripted : Scripted (of_history plain program_parameters) begun (lent (replicate program_jobs blank) (new_carrier program_queue) bytes) script answer history (lent records carrier bytes')

@@ -2,7 +2,7 @@
 ghost use Rattle.std.specs.Prelude.{◌≡◌, ◌+◌, ◌≤◌, not, length, take, drop, is_ok, if◌then◌else◌, Some, None, Ok, Err, slice_index_or};
 ghost use Rattle.containers.specs.Held.{holding};
 ghost use Rattle.groups.specs.Limits.{row_count, depth_max};
-ghost use Rattle.groups.specs.State.{face, full, can_open, fresh, written, opened, kept, cancelled, rolled_back, undo_record, state_with_undo_record};
+ghost use Rattle.groups.specs.State.{summary, full, can_open, fresh, written, opened, kept, cancelled, rolled_back, undo_record, state_with_undo_record};
 ghost use Rattle.groups.specs.TicketIds.{fits, ended_as};
 
 use crate::store::{Ending, Groups, ROWS, TRAIL_MAX, TicketId, TrailFull, UndoRecord};
@@ -49,7 +49,7 @@ impl<'a, P: Copy> Groups<'a, P> {
     /// Writes the row of a job, and inside a group first what stands there to the trail; refused, with nothing changed, if
     /// that is full.
     pub fn write(&mut self, job: u8, row: P) -> Result<(), TrailFull>
-        ensures value { is_ok result ≡ not (full self.old.trail_room (face self.old)) }
+        ensures value { is_ok result ≡ not (full self.old.trail_room (summary self.old)) }
         ensures after { self.new ≡ (if is_ok result then written self.old job row else self.old) }
     {
         self.record_undo(job)?;
@@ -60,7 +60,7 @@ impl<'a, P: Copy> Groups<'a, P> {
 
     // Writes what stands in the row of a job to the trail, inside a group; refused, with nothing changed, if that is full.
     fn record_undo(&mut self, job: u8) -> Result<(), TrailFull>
-        ensures value { is_ok result ≡ not (full self.old.trail_room (face self.old)) }
+        ensures value { is_ok result ≡ not (full self.old.trail_room (summary self.old)) }
         ensures after { (d : P) → self.new ≡ (if is_ok result then state_with_undo_record self.old (undo_record self.old.rows job d) else self.old) }
     {
         if self.starts.is_empty() {
@@ -76,8 +76,8 @@ impl<'a, P: Copy> Groups<'a, P> {
 
     /// Opens a group inside the others, and answers its ticket id; none, and nothing changed, if eight are open.
     pub fn open(&mut self) -> Option<TicketId>
-        ensures value { result ≡ (if can_open (face self.old) then Some (record { mark = self.old.mark; depth = (face self.old).depth + 1 }) else None) }
-        ensures after { self.new ≡ (if can_open (face self.old) then opened self.old else self.old) }
+        ensures value { result ≡ (if can_open (summary self.old) then Some (record { mark = self.old.mark; depth = (summary self.old).depth + 1 }) else None) }
+        ensures after { self.new ≡ (if can_open (summary self.old) then opened self.old else self.old) }
     {
         if self.starts.is_full() {
             return None;

@@ -2,7 +2,7 @@
 ghost use Rattle.std.specs.Prelude.{◌≡◌, ◌<◌, ◌≤◌, ◌-◌, true, length, if◌then◌else◌};
 ghost use Rattle.rows.specs.Law.{row_fits};
 ghost use Rattle.rows.specs.StoredRows.{waiting_of};
-ghost use Rattle.groups.specs.State.{face, full, written};
+ghost use Rattle.groups.specs.State.{summary, full, written};
 ghost use Rattle.groups.specs.History.{begun};
 ghost use Rattle.store.specs.declared.fault.BookFault.TheVariants.{TrailFull};
 ghost use Rattle.histories.specs.Calls.{edits, opens, ends};
@@ -82,8 +82,8 @@ impl<'a> Store<'a> {
     fn write(&mut self, job: usize, row: Row) -> Result<(), BookFault>
         requires job { job < length self.old.state.rows }
         requires lawful { row_fits (length self.old.state.rows) job (waiting_of row) ≡ true }
-        ensures value { told result ≡ (if full self.old.state.trail_room (face self.old.state) then refusal TrailFull else done) }
-        ensures after { self.new ≡ (if full self.old.state.trail_room (face self.old.state) then self.old else book_state self.old.fixed (written self.old.state job (waiting_of row))) }
+        ensures value { told result ≡ (if full self.old.state.trail_room (summary self.old.state) then refusal TrailFull else done) }
+        ensures after { self.new ≡ (if full self.old.state.trail_room (summary self.old.state) then self.old else book_state self.old.fixed (written self.old.state job (waiting_of row))) }
     {
         Ok(self.groups.write(job as u8, row.into())?)
     }

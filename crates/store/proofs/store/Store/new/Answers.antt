@@ -5,7 +5,7 @@ use Rattle.groups.specs.History.{begun}
 use Rattle.groups.specs.State.{fresh}
 use Rattle.groups.specs.StateViews.{view}
 use Rattle.groups.proofs.ViewLemmas.{view_fresh}
-use Rattle.store.specs.Creation.{new_terms}
+use Rattle.store.specs.Creation.{new_parameters}
 use Rattle.store.specs.Plain.{plain}
 use Rattle.histories.specs.Histories.{Shows}
 use Rattle.histories.proofs.SimulationLemmas.{fresh_shows}
@@ -24,4 +24,4 @@ returns c =
     let memory = length c.args.memory.now in
     let shown = ap (view n waiting) c.new.ensures ∙ view_fresh n waiting 256 c.idle.result mark memory c.created.ensures.bound ∙ ap (λ p. fresh n (waiting p) mark memory) c.idle.ensures ∙ ap (λ k. fresh k idle mark memory) c.created.ensures.value in
     let made = ap book_of shown in
-    record { value = made; shows = subst (λ b. Shows plain b begun) (sym made) (fresh_shows plain (new_terms c.args.jobs mark memory)) }
+    record { value = made; shows = subst (λ b. Shows plain b begun) (sym made) (fresh_shows plain (new_parameters c.args.jobs mark memory)) }
