@@ -12,7 +12,7 @@ use Rattle.scripts.specs.Workspace.{Lent, lent}
 use Rattle.book.specs.Moments.{answer_at, seen_at, written_by, AreEvents, nothing, then, Lived}
 use Rattle.book.specs.LifeSteps.{Performed}
 use Rattle.store.specs.Snapshots.{snapshot_view}
-use Rattle.histories.specs.Machines.{of_book, view_of}
+use Rattle.histories.specs.Machines.{book_machine, view_of}
 use Rattle.book.specs.declared.life.call.Answer.{Answer}
 use Rattle.book.specs.declared.life.call.Call.{Call}
 use Rattle.book.specs.declared.life.moment.Moment.{Moment}
@@ -40,7 +40,7 @@ module _ (jobs mark memory : ℕ) (before : Lent) where
       → Alive ks ms s records carrier answers written
       → (k : Call) (a : Answer) (rest : List ℕ) (seen : Snapshot)
       → Performed s (lent records carrier (drop written answers)) k a s' (lent is after rest)
-      → written_by a ≤ length rest → snapshot_view seen ≡ view_of (of_book plain) s'
+      → written_by a ≤ length rest → snapshot_view seen ≡ view_of (book_machine plain) s'
       → Alive (ks ++ k ∷ []) (ms ++ record { answer = a; seen = seen } ∷ []) s' is after (take written answers ++ rest) (written + written_by a)
   alive_next {ks} {ms} {s} {s'} {records} {is} {carrier} {after} {answers} {written} alive k a rest seen p fits shown =
       let moment : Moment = record { answer = a; seen = seen } in
@@ -63,7 +63,7 @@ module _ (jobs mark memory : ℕ) (before : Lent) where
 
   -- at the end the law tells the history
   pub alive_lived : {ks : List Call} {ms : List Moment} {s : PlainBook} {records : List RunRecord} {carrier : Carried} {answers : List ℕ} {written : ℕ} (first : Snapshot)
-      → snapshot_view first ≡ view_of (of_book plain) (new_book jobs mark memory)
+      → snapshot_view first ≡ view_of (book_machine plain) (new_book jobs mark memory)
       → Alive ks ms s records carrier answers written → Lived jobs mark memory ks first ms before (lent records carrier answers)
   alive_lived {s = s} {records = records} {carrier = carrier} {answers = answers} {written = written} first seen alive =
       let law = law_of_plain_books (new_parameters jobs mark memory) in

@@ -3,7 +3,7 @@ use Rattle.std.specs.Prelude.{ℕ, List, Result}
 use Rattle.rows.specs.Waiting.{Waiting}
 use Rattle.groups.specs.History.{History}
 use Rattle.histories.specs.Rules.{Parameters}
-use Rattle.histories.specs.Machines.{Subject, View, of_book, of_history}
+use Rattle.histories.specs.Machines.{Machine, View, book_machine, history_machine}
 use Rattle.lives.specs.Events.{Event, special, Does, Life}
 use Rattle.store.specs.Edits.{Edit}
 use Rattle.scripts.specs.Workspace.{Lent}
@@ -21,18 +21,18 @@ pub record ScriptRun : Type 0 where
   pub answer : Result FinishedScript StoppedScript
   pub after : Lent
 
--- It happens to a subject by the rules of scripts.
-abbrev pub RunsScript : {X : Type 0} → Subject Waiting Edit X → X → ScriptRun → X → Type 0
+-- It happens to a machine by the rules of scripts.
+abbrev pub RunsScript : {X : Type 0} → Machine Waiting Edit X → X → ScriptRun → X → Type 0
 RunsScript S x r y = Scripted S x r.before r.script r.answer y r.after
 
 -- To a book.
 abbrev pub RunsOnBook : PlainBook → ScriptRun → PlainBook → Type 0
-RunsOnBook = RunsScript (of_book plain)
+RunsOnBook = RunsScript (book_machine plain)
 
 -- To a history, which is then fed the calls that the script counts as.
 pub record RunsOnHistory (t : Parameters Fixed) (h : History Edit) (r : ScriptRun) (i : History Edit) : Type 0 where
-  pub does : RunsScript (of_history plain t) h r i
-  pub counts : CountsAs (of_history plain t) h r.script r.answer i
+  pub does : RunsScript (history_machine plain t) h r i
+  pub counts : CountsAs (history_machine plain t) h r.script r.answer i
 
 -- What happens to a plain book.
 abbrev pub BookEvent : Type 0
@@ -44,12 +44,12 @@ scripted script before answer after = special (record { script = script; before 
 
 -- An event happens to a plain book.
 abbrev pub DoesOnBook : PlainBook → BookEvent → PlainBook → Type 0
-DoesOnBook = Does plain (of_book plain) RunsOnBook
+DoesOnBook = Does plain (book_machine plain) RunsOnBook
 
 -- The life of a plain book.
 abbrev pub LifeOfBook : (first : PlainBook) → List BookEvent → List (View Waiting) → PlainBook → Type 0
-LifeOfBook = Life plain (of_book plain) RunsOnBook
+LifeOfBook = Life plain (book_machine plain) RunsOnBook
 
 -- The life of a history.
 abbrev pub LifeOfHistory : Parameters Fixed → (first : History Edit) → List BookEvent → List (View Waiting) → History Edit → Type 0
-LifeOfHistory t = Life plain (of_history plain t) (RunsOnHistory t)
+LifeOfHistory t = Life plain (history_machine plain t) (RunsOnHistory t)

@@ -16,7 +16,7 @@ use Rattle.store.specs.Creation.{new_book, new_parameters}
 use Rattle.scripts.specs.Workspace.{Lent}
 use Rattle.scripts.specs.ScriptRuns.{script_written}
 use Rattle.store.specs.Snapshots.{snapshot_view}
-use Rattle.histories.specs.Machines.{of_history, View, view_of}
+use Rattle.histories.specs.Machines.{history_machine, View, view_of}
 use Rattle.store.specs.Replies.{edit_of, told, told_stub, told_ending_by}
 use Rattle.store.specs.declared.fault.BookFault.{BookFault}
 use Rattle.store.specs.declared.fault.RefusedTicketId.{RefusedTicketId}
@@ -81,6 +81,6 @@ pub record Lived (jobs mark memory : ℕ) (calls : List Call) (first : Snapshot)
   pub history : History Edit
   pub follows : LifeOfHistory (new_parameters jobs mark memory) begun events (map seen_at moments) history
   -- of the book the same is seen, by the law of lives
-  pub created : snapshot_view first ≡ view_of (of_history plain (new_parameters jobs mark memory)) begun
+  pub created : snapshot_view first ≡ view_of (history_machine plain (new_parameters jobs mark memory)) begun
   -- what is left of the lent memory: the bytes written stand before those that were not
   pub lent : after ≡ record { records = left.records; carrier = left.carrier; bytes = bytes ++ left.bytes }

@@ -8,8 +8,8 @@ ghost use Rattle.book.specs.Tickets.{told_opening, told_ending};
 ghost use Rattle.groups.specs.History.{begun};
 ghost use Rattle.groups.specs.Limits.{depth_max};
 ghost use Rattle.histories.specs.Calls.{edits, opens, keeps, cancels, ends};
-ghost use Rattle.histories.specs.Histories.{Called, Shows};
-ghost use Rattle.histories.specs.Machines.{of_book, view_of};
+ghost use Rattle.histories.specs.Histories.{CallStep, Represents};
+ghost use Rattle.histories.specs.Machines.{book_machine, view_of};
 ghost use Rattle.store.specs.Snapshots.{snapshot_view};
 ghost use Rattle.scripts.specs.Workspace.{lent};
 ghost use Rattle.scripts.specs.ScriptCalls.{CountsAs};
@@ -45,7 +45,7 @@ impl<'a> Book<'a> {
     /// lent memory. Where more than 256 jobs are asked for, it has none.
     pub fn new(jobs: usize, mark: u16, memory: &'a mut [UndoRecord<PlainRow>]) -> Book<'a>
         ensures value { result ≡ new_book jobs mark (length memory.old) }
-        ensures shows { Shows plain result begun }
+        ensures represents { Represents plain result begun }
     {
         Book {
             store: Store::new(jobs, mark, memory),
@@ -54,7 +54,7 @@ impl<'a> Book<'a> {
 
     /// A request: an active job waits for `need` of the targets, which are listed by rising number.
     pub fn request(&mut self, job: usize, need: u8, targets: &[u8]) -> Result<(), BookFault>
-        ensures { Called plain self.old (edits (requests job need targets.now)) (told result) self.new }
+        ensures { CallStep plain self.old (edits (requests job need targets.now)) (told result) self.new }
     {
         self.store.request(job, need, targets)
     }
@@ -62,14 +62,14 @@ impl<'a> Book<'a> {
     /// A grant: the waiter no longer waits for the granter, which is active, and needs one less; when it needs none, its
     /// other waits go too.
     pub fn grant(&mut self, granter: usize, waiter: usize) -> Result<(), BookFault>
-        ensures { Called plain self.old (edits (grants granter waiter)) (told result) self.new }
+        ensures { CallStep plain self.old (edits (grants granter waiter)) (told result) self.new }
     {
         self.store.grant(granter, waiter)
     }
 
     /// Opens a group inside the others. Its ticket must be handed back, by keeping the group or by cancelling it.
     pub fn open(&mut self) -> Result<Ticket, BookFault>
-        ensures called { Called plain self.old opens (told_opening result) self.new }
+        ensures called { CallStep plain self.old opens (told_opening result) self.new }
         ensures given { length self.old.state.groups < depth_max → IsOk result }
         ensures ticket { IfOk result (λ t. (t.mark ≡ self.old.state.mark) × (t.depth ≡ length self.old.state.groups + 1)) }
     {
@@ -82,7 +82,7 @@ impl<'a> Book<'a> {
     /// Ends the innermost group, and its edits stay, undone only if the group around it is cancelled. A ticket that is
     /// not the innermost group's comes back.
     pub fn keep(&mut self, ticket: Ticket) -> Result<(), RefusedEnding>
-        ensures called { Called plain self.old (keeps ticket.mark ticket.depth) (told_ending result) self.new }
+        ensures called { CallStep plain self.old (keeps ticket.mark ticket.depth) (told_ending result) self.new }
         ensures taken { ticket.mark ≡ self.old.state.mark → ticket.depth ≡ length self.old.state.groups → 0 < ticket.depth → IsOk result }
     {
         self.end(Ending::Keep, ticket)
@@ -91,7 +91,7 @@ impl<'a> Book<'a> {
     /// Ends the innermost group, and every row is as it was when the group was opened. A ticket that is not the innermost
     /// group's comes back.
     pub fn cancel(&mut self, ticket: Ticket) -> Result<(), RefusedEnding>
-        ensures called { Called plain self.old (cancels ticket.mark ticket.depth) (told_ending result) self.new }
+        ensures called { CallStep plain self.old (cancels ticket.mark ticket.depth) (told_ending result) self.new }
         ensures taken { ticket.mark ≡ self.old.state.mark → ticket.depth ≡ length self.old.state.groups → 0 < ticket.depth → IsOk result }
     {
         self.end(Ending::Cancel, ticket)
@@ -99,7 +99,7 @@ impl<'a> Book<'a> {
 
     // Ends the innermost group; a ticket that is not that group's comes back.
     fn end(&mut self, ending: Ending, ticket: Ticket) -> Result<(), RefusedEnding>
-        ensures { Called plain self.old (ends ending ticket.mark ticket.depth) (told_ending result) self.new }
+        ensures { CallStep plain self.old (ends ending ticket.mark ticket.depth) (told_ending result) self.new }
     {
         match self.store.end(ending, ticket.spent()) {
             Ok(()) => Ok(()),
@@ -112,7 +112,7 @@ impl<'a> Book<'a> {
 
     /// What is seen of the book.
     pub fn snapshot(&self) -> Snapshot
-        ensures { snapshot_view result ≡ view_of (of_book plain) self.now }
+        ensures { snapshot_view result ≡ view_of (book_machine plain) self.now }
     {
         self.store.snapshot()
     }
@@ -137,7 +137,7 @@ impl<'a> Book<'a> {
         answers: &mut [u8],
     ) -> Result<FinishedScript, StoppedScript>
         ensures ran { RanScript self.old (lent records.old (C.Carrier.carried carrier.old) answers.old) script.now result self.new (lent records.new (C.Carrier.carried carrier.new) answers.new) }
-        ensures counts { CountsAs (of_book plain) self.old script.now result self.new }
+        ensures counts { CountsAs (book_machine plain) self.old script.now result self.new }
         ensures written { script_written result ≤ length answers.new }
         ensures groups { SameGroups self.old self.new }
     {

@@ -6,7 +6,7 @@ use Rattle.groups.specs.State.{summary, innermost, with_undo_record, merged, und
 use Rattle.groups.proofs.RollBackLemmas.{same_state}
 use Rattle.book.specs.Calls.{edits, opens, keeps, cancels}
 use Rattle.book.specs.Rules.{BookState, book_state, Rules, changed, says, after}
-use Rattle.book.specs.Histories.{Called}
+use Rattle.book.specs.Histories.{CallStep}
 use Rattle.book.specs.Answers.{Answer, ticket, accepted, too_deep}
 
 module _ {P E K : Type 0} (R : Rules P E K) where
@@ -68,17 +68,17 @@ module _ {P E K : Type 0} (R : Rules P E K) where
 
   -- ---- from the promises of the calls: an opening that gives a ticket, and an edit
 
-  module _ {s s₁ s₂ : BookState P K} {m d : ℕ} {e : E} {a : Answer} (first : Called R s opens (ticket m d) s₁) (second : Called R s₁ (edits e) a s₂) where
+  module _ {s s₁ s₂ : BookState P K} {m d : ℕ} {e : E} {a : Answer} (first : CallStep R s opens (ticket m d) s₁) (second : CallStep R s₁ (edits e) a s₂) where
     given : (m ≡ s.state.mark) × (d ≡ (summary s.state).depth + 1) × (after R s opens ≡ opening s)
     given = ticket_given s m d first.value
 
     edited : s₂ ≡ after R (opening s) (edits e)
     edited = second.after ∙ ap (λ v. after R v (edits e)) (first.after ∙ given.2)
 
-    pub cancel_leaves : {b : Answer} {s₃ : BookState P K} → Called R s₂ (cancels m d) b s₃ → s₃ ≡ s
+    pub cancel_leaves : {b : Answer} {s₃ : BookState P K} → CallStep R s₂ (cancels m d) b s₃ → s₃ ≡ s
     cancel_leaves third = third.after ∙ ap (λ v. after R v (cancels m d)) edited ∙ cancelled_round s e m d given.0 given.1
 
-    pub keep_leaves : {b : Answer} {s₃ : BookState P K} → Called R s₂ (keeps m d) b s₃ → s₃ ≡ cond (accepted a) (changed R s (edits e)) s
+    pub keep_leaves : {b : Answer} {s₃ : BookState P K} → CallStep R s₂ (keeps m d) b s₃ → s₃ ≡ cond (accepted a) (changed R s (edits e)) s
     keep_leaves third =
         third.after
         ∙ ap (λ v. after R v (keeps m d)) edited

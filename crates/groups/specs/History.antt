@@ -33,15 +33,15 @@ forget (history o (g ∷ gs)) = history o gs
 -- A call writes the row of one job, and goes by the rows that it finds.
 module _ {P C : Type 0} (job : C → ℕ) (next : List P → C → P) where
   -- The rows after some calls, made in order.
-  abbrev pub made : List P → List C → List P
-  made rows [] = rows
-  made rows (c ∷ cs) = made (slice_set rows (job c) (next rows c)) cs
+  abbrev pub rows_after_calls : List P → List C → List P
+  rows_after_calls rows [] = rows
+  rows_after_calls rows (c ∷ cs) = rows_after_calls (slice_set rows (job c) (next rows c)) cs
 
   -- The rows that the surviving calls draw on the first ones, from the outer list inwards.
-  abbrev pub drawn : List P → List C → List (List C) → List P
-  drawn first o [] = made first o
-  drawn first o (g ∷ gs) = made (drawn first o gs) g
+  abbrev pub rows_of_history : List P → List C → List (List C) → List P
+  rows_of_history first o [] = rows_after_calls first o
+  rows_of_history first o (g ∷ gs) = rows_after_calls (rows_of_history first o gs) g
 
   -- What a history's answers go by.
   abbrev pub history_summary : List P → History C → Summary P
-  history_summary first (history o gs) = record { rows = drawn first o gs; depth = length gs; recorded = total gs }
+  history_summary first (history o gs) = record { rows = rows_of_history first o gs; depth = length gs; recorded = total gs }

@@ -8,9 +8,9 @@ use Rattle.groups.proofs.RepresentationLemmas.{represents_summary}
 use Rattle.histories.specs.Answers.{accepted}
 use Rattle.histories.specs.Calls.{Call, edits, opens, keeps, cancels, ends}
 use Rattle.histories.specs.Rules.{Parameters, BookState, parameters, Rules, fresh_book, says, after, changed}
-use Rattle.histories.specs.Histories.{summary_of, answers, fed, Shows}
-use Rattle.histories.specs.Machines.{of_book, of_history, view_of}
-use Rattle.histories.proofs.SimulationLemmas.{length-changed, says_answers, after_shows, fresh_shows}
+use Rattle.histories.specs.Histories.{summary_of, answers, history_after, Represents}
+use Rattle.histories.specs.Machines.{book_machine, history_machine, view_of}
+use Rattle.histories.proofs.SimulationLemmas.{length-changed, says_answers, after_represents, fresh_represents}
 
 module _ {P E K : Type 0} (R : Rules P E K) where
   -- no call changes what creation was told
@@ -30,11 +30,11 @@ module _ {P E K : Type 0} (R : Rules P E K) where
   -- A book of these parameters that shows a history.
   pub record Stands (t : Parameters K) (s : BookState P K) (h : History E) : Type 0 where
     pub told : parameters s ≡ t
-    pub shows : Shows R s h
+    pub represents : Represents R s h
 
   module _ (t : Parameters K) {s : BookState P K} {h : History E} (w : Stands t s h) where
     pub same_summary : summary s.state ≡ summary_of R t h
-    same_summary = represents_summary R.job_of R.next_row (replicate (length s.state.rows) R.idle) s.state h w.shows ∙ ap (λ u. summary_of R u h) w.told
+    same_summary = represents_summary R.job_of R.next_row (replicate (length s.state.rows) R.idle) s.state h w.represents ∙ ap (λ u. summary_of R u h) w.told
 
     pub same_rows : s.state.rows ≡ (summary_of R t h).rows
     same_rows = ap (λ f. f.rows) same_summary
@@ -46,20 +46,20 @@ module _ {P E K : Type 0} (R : Rules P E K) where
     same_mark = ap (λ (u : Parameters K). u.mark) w.told
 
     pub same_answer : (c : Call E) → says R s c ≡ answers R t h c
-    same_answer c = says_answers R s c h w.shows ∙ ap (λ u. answers R u h c) w.told
+    same_answer c = says_answers R s c h w.represents ∙ ap (λ u. answers R u h c) w.told
 
-    pub stands_after : (c : Call E) → Stands t (after R s c) (fed R t h c)
-    stands_after c = record { told = parameters_after s c ∙ w.told; shows = subst (λ u. Shows R (after R s c) (fed R u h c)) w.told (after_shows R s c h w.shows) }
+    pub stands_after : (c : Call E) → Stands t (after R s c) (history_after R t h c)
+    stands_after c = record { told = parameters_after s c ∙ w.told; represents = subst (λ u. Represents R (after R s c) (history_after R u h c)) w.told (after_represents R s c h w.represents) }
 
     pub same_ending : (e : Ending) → ◌≡◌ {A = Call E} (ends e s.state.mark (length s.state.groups)) (ends e t.mark (summary_of R t h).depth)
     same_ending e = ap (λ m. ends {E = E} e m (length s.state.groups)) same_mark ∙ ap (ends {E = E} e t.mark) same_depth
 
-    pub same_view : view_of (of_book R) s ≡ view_of (of_history R t) h
+    pub same_view : view_of (book_machine R) s ≡ view_of (history_machine R t) h
     same_view = ap (λ rows. record { rows = rows; depth = length s.state.groups }) same_rows ∙ ap (λ d. record { rows = (summary_of R t h).rows; depth = d }) same_depth
 
   -- so it is at creation
   pub fresh_stands : (t : Parameters K) → Stands t (fresh_book R t) begun
   fresh_stands t = record {
     told = ap (λ n. record { jobs = n; mark = t.mark; trail_room = t.trail_room; fixed = t.fixed }) (length-replicate t.jobs R.idle);
-    shows = fresh_shows R t;
+    represents = fresh_represents R t;
   }

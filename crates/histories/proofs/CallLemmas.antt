@@ -9,10 +9,10 @@ use Rattle.groups.proofs.ViewLemmas.{view_kept, view_cancelled, view_depth, view
 use Rattle.groups.specs.State.{State, Summary, summary, full, innermost, written, opened, kept, cancelled}
 use Rattle.histories.specs.Answers.{Answer, done, ticket, accepted, trail_full, too_deep, not_innermost}
 use Rattle.histories.specs.Calls.{Call, edits, opens, keeps, cancels, ends}
-use Rattle.histories.specs.Histories.{Called}
+use Rattle.histories.specs.Histories.{CallStep}
 use Rattle.histories.specs.Rules.{BookState, book_state, Rules, says, changed}
 use Rattle.histories.proofs.TicketIdAnswers.{ticket_id_answer, ending_answer_of}
-use Rattle.histories.proofs.SimulationLemmas.{called}
+use Rattle.histories.proofs.SimulationLemmas.{call_step}
 
 -- a face decides the same where it counts the same
 full_same : {P Q : Type 0} (trail_room : ℕ) (f : Summary P) (f' : Summary Q) → f.depth ≡ f'.depth → f.recorded ≡ f'.recorded → full trail_room f ≡ full trail_room f'
@@ -28,23 +28,23 @@ end_told false k r e = ap ending_answer_of e
 
 module _ {Q E K : Type 0} (R : Rules Q E K) where
   -- a call that is accepted or refused by one test
-  by_test : (s t w : BookState Q K) (c : Call E) (a taken refused : Answer) (q r : Bool) → says R s c ≡ cond q taken refused → accepted taken ≡ true → accepted refused ≡ false → q ≡ r → changed R s c ≡ w → a ≡ cond r taken refused → t ≡ cond r w s → Called R s c a t
+  by_test : (s t w : BookState Q K) (c : Call E) (a taken refused : Answer) (q r : Bool) → says R s c ≡ cond q taken refused → accepted taken ≡ true → accepted refused ≡ false → q ≡ r → changed R s c ≡ w → a ≡ cond r taken refused → t ≡ cond r w s → CallStep R s c a t
   by_test s t w c a taken refused true true e y n qr ch f g =
-      called R s c a t (f ∙ sym e) (g ∙ sym ch ∙ ap (λ k. cond k (changed R s c) s) (sym (ap accepted e ∙ y)))
+      call_step R s c a t (f ∙ sym e) (g ∙ sym ch ∙ ap (λ k. cond k (changed R s c) s) (sym (ap accepted e ∙ y)))
   by_test s t w c a taken refused false false e y n qr ch f g =
-      called R s c a t (f ∙ sym e) (g ∙ ap (λ k. cond k (changed R s c) s) (sym (ap accepted e ∙ n)))
+      call_step R s c a t (f ∙ sym e) (g ∙ ap (λ k. cond k (changed R s c) s) (sym (ap accepted e ∙ n)))
   by_test s t w c a taken refused true false e y n qr ch f g = absurd (cc qr)
   by_test s t w c a taken refused false true e y n qr ch f g = absurd (cc qr)
 
   -- a refused edit changes nothing
-  pub stopped_call_step : (s : BookState Q K) (e : E) (a stop : Answer) → accepted stop ≡ false → a ≡ stop → stop ≡ says R s (edits e) → Called R s (edits e) a s
+  pub stopped_call_step : (s : BookState Q K) (e : E) (a stop : Answer) → accepted stop ≡ false → a ≡ stop → stop ≡ says R s (edits e) → CallStep R s (edits e) a s
   stopped_call_step s e a stop refused h p =
-      called R s (edits e) a s (h ∙ p) (ap (λ k. cond k (changed R s (edits e)) s) (sym refused ∙ ap accepted p))
+      call_step R s (edits e) a s (h ∙ p) (ap (λ k. cond k (changed R s (edits e)) s) (sym refused ∙ ap accepted p))
 
   -- an edit that passes its own checks is stopped by a full trail alone
-  pub edit_call_step : (s t : BookState Q K) (e : E) (w : Q) (a : Answer) → w ≡ R.next_row s.state.rows e → says R s (edits e) ≡ cond (full s.state.trail_room (summary s.state)) trail_full done → a ≡ cond (full s.state.trail_room (summary s.state)) trail_full done → t ≡ cond (full s.state.trail_room (summary s.state)) s (book_state s.fixed (written s.state (R.job_of e) w)) → Called R s (edits e) a t
+  pub edit_call_step : (s t : BookState Q K) (e : E) (w : Q) (a : Answer) → w ≡ R.next_row s.state.rows e → says R s (edits e) ≡ cond (full s.state.trail_room (summary s.state)) trail_full done → a ≡ cond (full s.state.trail_room (summary s.state)) trail_full done → t ≡ cond (full s.state.trail_room (summary s.state)) s (book_state s.fixed (written s.state (R.job_of e) w)) → CallStep R s (edits e) a t
   edit_call_step s t e w a is p f g =
-      called R s (edits e) a t (f ∙ sym p)
+      call_step R s (edits e) a t (f ∙ sym p)
       (g
       ∙ ap (λ v. cond (full s.state.trail_room (summary s.state)) s (book_state s.fixed (written s.state (R.job_of e) v))) is
       ∙ go (full s.state.trail_room (summary s.state))
@@ -70,7 +70,7 @@ module _ {P : Type 0} (n : ℕ) {Q : Type 0} (f : P → Q) where
   seen_if fixed false s t = refl
 
   module _ {E K : Type 0} (R : Rules Q E K) (fixed : K) (s t : State P) where
-    pub open_call_step : (r : Option TicketId) → r ≡ cond (ltb (summary s).depth 8) (Some (record { mark = s.mark; depth = (summary s).depth + 1 })) None → t ≡ cond (ltb (summary s).depth 8) (opened s) s → Called R (seen fixed s) opens (ticket_id_answer r) (seen fixed t)
+    pub open_call_step : (r : Option TicketId) → r ≡ cond (ltb (summary s).depth 8) (Some (record { mark = s.mark; depth = (summary s).depth + 1 })) None → t ≡ cond (ltb (summary s).depth 8) (opened s) s → CallStep R (seen fixed s) opens (ticket_id_answer r) (seen fixed t)
     open_call_step r e g =
         let d = view_depth n f s in
         let q = ltb (summary s).depth 8 in
@@ -78,7 +78,7 @@ module _ {P : Type 0} (n : ℕ) {Q : Type 0} (f : P → Q) where
         (ap ticket_id_answer e ∙ open_told q s.mark (summary s).depth (summary (view n f s)).depth (sym d))
         (ap (seen fixed) g ∙ seen_if fixed q (opened s) s)
 
-    pub end_call_step : n ≤ length s.rows → (e : Ending) (k : TicketId) (r : Result (Unit {0}) TicketId) → r ≡ cond (fits s k) (Ok tt) (Err k) → t ≡ cond (fits s k) (ended_as e s) s → Called R (seen fixed s) (ends e k.mark k.depth) (ending_answer_of r) (seen fixed t)
+    pub end_call_step : n ≤ length s.rows → (e : Ending) (k : TicketId) (r : Result (Unit {0}) TicketId) → r ≡ cond (fits s k) (Ok tt) (Err k) → t ≡ cond (fits s k) (ended_as e s) s → CallStep R (seen fixed s) (ends e k.mark k.depth) (ending_answer_of r) (seen fixed t)
     end_call_step l Keep k r e g =
         by_test R (seen fixed s) (seen fixed t) (seen fixed (kept s)) (keeps k.mark k.depth) _ done (not_innermost k.mark k.depth) _ (fits s k) refl refl refl (fits_seen s k) (ap (book_state fixed) (sym (view_kept n f s)))
         (end_told (fits s k) k r e)

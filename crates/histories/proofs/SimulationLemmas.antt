@@ -3,13 +3,13 @@ use Rattle.std.proofs.Common.{◌≡◌, ◌-◌, Bool, true, false, cond, List,
 use Rattle.std.proofs.lemmas.List.{length-set, length-replicate}
 use Rattle.groups.specs.State.{State, undo_record, with_undo_record, merged, outside}
 use Rattle.groups.specs.History.{History, begun}
-use Rattle.groups.specs.Representation.{ShowsFrom}
-use Rattle.groups.proofs.RepresentationLemmas.{represents_summary, write_shows, open_shows, keep_shows, cancel_shows}
+use Rattle.groups.specs.Representation.{RepresentsFrom}
+use Rattle.groups.proofs.RepresentationLemmas.{represents_summary, write_represents, open_represents, keep_represents, cancel_represents}
 use Rattle.groups.proofs.ViewLemmas.{length-restored}
 use Rattle.histories.specs.Calls.{Call, edits, opens, keeps, cancels}
 use Rattle.histories.specs.Answers.{Answer, accepted}
 use Rattle.histories.specs.Rules.{Parameters, BookState, parameters, Rules, fresh_book, answer, says, after, changed, changed_state}
-use Rattle.histories.specs.Histories.{answers, listed, fed, depth_after, Shows, Follows, Called}
+use Rattle.histories.specs.Histories.{answers, lists_after, history_after, depth_after, Represents, Simulates, CallStep}
 
 -- how many groups are open after a call
 length-with_undo_record : {X : Type 0} (gs : List (List X)) (x : X) → length (with_undo_record gs x) ≡ length gs
@@ -33,26 +33,26 @@ module _ {P E K : Type 0} (R : Rules P E K) where
   length-changed s (keeps mark depth) = refl
   length-changed s (cancels mark depth) = length-restored s.state.rows s.state.groups
 
-  changed_shows : (first : List P) (s : State P) (c : Call E) (h : History E) → ShowsFrom R.job_of R.next_row first s h → ShowsFrom R.job_of R.next_row first (changed_state R s c) (listed h c)
-  changed_shows first s (edits e) h w = write_shows R.job_of R.next_row first s e h w
-  changed_shows first s opens h w = open_shows R.job_of R.next_row first s h w
-  changed_shows first s (keeps mark depth) h w = keep_shows R.job_of R.next_row first s h w
-  changed_shows first s (cancels mark depth) h w = cancel_shows R.job_of R.next_row first s h w
+  changed_represents : (first : List P) (s : State P) (c : Call E) (h : History E) → RepresentsFrom R.job_of R.next_row first s h → RepresentsFrom R.job_of R.next_row first (changed_state R s c) (lists_after h c)
+  changed_represents first s (edits e) h w = write_represents R.job_of R.next_row first s e h w
+  changed_represents first s opens h w = open_represents R.job_of R.next_row first s h w
+  changed_represents first s (keeps mark depth) h w = keep_represents R.job_of R.next_row first s h w
+  changed_represents first s (cancels mark depth) h w = cancel_represents R.job_of R.next_row first s h w
 
-  pub says_answers : (s : BookState P K) (c : Call E) (h : History E) → Shows R s h → says R s c ≡ answers R (parameters s) h c
+  pub says_answers : (s : BookState P K) (c : Call E) (h : History E) → Represents R s h → says R s c ≡ answers R (parameters s) h c
   says_answers s c h w = ap (λ f. answer R (parameters s) f c) (represents_summary R.job_of R.next_row (replicate (length s.state.rows) R.idle) s.state h w)
 
-  pub after_shows : (s : BookState P K) (c : Call E) (h : History E) → Shows R s h → Shows R (after R s c) (fed R (parameters s) h c)
-  after_shows s c h w = go (accepted (says R s c)) (accepted (answers R (parameters s) h c)) (ap accepted (says_answers s c h w))
+  pub after_represents : (s : BookState P K) (c : Call E) (h : History E) → Represents R s h → Represents R (after R s c) (history_after R (parameters s) h c)
+  after_represents s c h w = go (accepted (says R s c)) (accepted (answers R (parameters s) h c)) (ap accepted (says_answers s c h w))
     where
-      go : (a b : Bool) → a ≡ b → Shows R (cond a (changed R s c) s) (cond b (listed h c) h)
-      go true true e = subst (λ n. ShowsFrom R.job_of R.next_row (replicate n R.idle) (changed_state R s.state c) (listed h c)) (sym (length-changed s c)) (changed_shows (replicate (length s.state.rows) R.idle) s.state c h w)
+      go : (a b : Bool) → a ≡ b → Represents R (cond a (changed R s c) s) (cond b (lists_after h c) h)
+      go true true e = subst (λ n. RepresentsFrom R.job_of R.next_row (replicate n R.idle) (changed_state R s.state c) (lists_after h c)) (sym (length-changed s c)) (changed_represents (replicate (length s.state.rows) R.idle) s.state c h w)
       go false false e = w
       go true false e = absurd (cc e)
       go false true e = absurd (cc e)
 
-  follows : (s : BookState P K) (c : Call E) (a : Answer) (s' : BookState P K) → a ≡ says R s c → s' ≡ after R s c → Follows R s c a s'
-  follows s c a s' e f h w = (e ∙ says_answers s c h w, subst (λ t. Shows R t (fed R (parameters s) h c)) (sym f) (after_shows s c h w))
+  follows : (s : BookState P K) (c : Call E) (a : Answer) (s' : BookState P K) → a ≡ says R s c → s' ≡ after R s c → Simulates R s c a s'
+  follows s c a s' e f h w = (e ∙ says_answers s c h w, subst (λ t. Represents R t (history_after R (parameters s) h c)) (sym f) (after_represents s c h w))
 
   -- no call changes the mark
   mark_after : (s : BookState P K) (c : Call E) → (after R s c).state.mark ≡ s.state.mark
@@ -75,15 +75,15 @@ module _ {P E K : Type 0} (R : Rules P E K) where
   depth_so s (cancels mark depth) true = length-outside s.state.groups
   depth_so s (cancels mark depth) false = refl
 
-  pub called : (s : BookState P K) (c : Call E) (a : Answer) (s' : BookState P K) → a ≡ says R s c → s' ≡ after R s c → Called R s c a s'
-  called s c a s' e f = record {
+  pub call_step : (s : BookState P K) (c : Call E) (a : Answer) (s' : BookState P K) → a ≡ says R s c → s' ≡ after R s c → CallStep R s c a s'
+  call_step s c a s' e f = record {
     value = e;
     after = f;
-    shows = follows s c a s' e f;
+    represents = follows s c a s' e f;
     mark = ap (λ (t : BookState P K). t.state.mark) f ∙ mark_after s c;
     depth = ap (λ (t : BookState P K). length t.state.groups) f ∙ depth_so s c (accepted (says R s c)) ∙ ap (λ q. depth_after c q (length s.state.groups)) (sym (ap accepted e));
   }
 
   -- a new book shows the history in which nothing has happened
-  pub fresh_shows : (t : Parameters K) → Shows R (fresh_book R t) begun
-  fresh_shows t = ap (λ k. replicate k R.idle) (sym (length-replicate t.jobs R.idle))
+  pub fresh_represents : (t : Parameters K) → Represents R (fresh_book R t) begun
+  fresh_represents t = ap (λ k. replicate k R.idle) (sym (length-replicate t.jobs R.idle))

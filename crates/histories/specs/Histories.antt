@@ -2,17 +2,17 @@
 use Rattle.std.specs.Prelude.{◌≡◌, ℕ, ◌+◌, ◌-◌, Bool, cond, length, replicate}
 use Rattle.groups.specs.State.{Summary}
 use Rattle.groups.specs.History.{History, join, nest, merge, forget, history_summary}
-use Rattle.groups.specs.Representation.{ShowsFrom}
+use Rattle.groups.specs.Representation.{RepresentsFrom}
 use Rattle.histories.specs.Answers.{Answer, accepted}
 use Rattle.histories.specs.Calls.{Call, edits, opens, keeps, cancels}
 use Rattle.histories.specs.Rules.{Parameters, BookState, parameters, Rules, answer, says, after}
 
 -- What an accepted call does to the lists.
-abbrev pub listed : {E : Type 0} → History E → Call E → History E
-listed h (edits e) = join h e
-listed h opens = nest h
-listed h (keeps mark depth) = merge h
-listed h (cancels mark depth) = forget h
+abbrev pub lists_after : {E : Type 0} → History E → Call E → History E
+lists_after h (edits e) = join h e
+lists_after h opens = nest h
+lists_after h (keeps mark depth) = merge h
+lists_after h (cancels mark depth) = forget h
 
 -- How many groups are open after a call, by whether it is accepted.
 abbrev pub depth_after : {E : Type 0} → Call E → (taken : Bool) → ℕ → ℕ
@@ -31,22 +31,22 @@ module _ {P E K : Type 0} (R : Rules P E K) where
   answers t h c = answer R t (summary_of t h) c
 
   -- A history fed a call; a refused call changes no list.
-  abbrev pub fed : Parameters K → History E → Call E → History E
-  fed t h c = cond (accepted (answers t h c)) (listed h c) h
+  abbrev pub history_after : Parameters K → History E → Call E → History E
+  history_after t h c = cond (accepted (answers t h c)) (lists_after h c) h
 
   -- A book shows a history: same rows, same depth, and what the trail would undo.
-  abbrev pub Shows : BookState P K → History E → Type 0
-  Shows s h = ShowsFrom R.job_of R.next_row (replicate (length s.state.rows) R.idle) s.state h
+  abbrev pub Represents : BookState P K → History E → Type 0
+  Represents s h = RepresentsFrom R.job_of R.next_row (replicate (length s.state.rows) R.idle) s.state h
 
   -- Whatever history the book shows before a call: it answers as that history, and shows that history fed the call after.
-  abbrev pub Follows : BookState P K → Call E → Answer → BookState P K → Type 0
-  Follows s c a s' = (h : History E) → Shows s h → (a ≡ answers (parameters s) h c) × Shows s' (fed (parameters s) h c)
+  abbrev pub Simulates : BookState P K → Call E → Answer → BookState P K → Type 0
+  Simulates s c a s' = (h : History E) → Represents s h → (a ≡ answers (parameters s) h c) × Represents s' (history_after (parameters s) h c)
 
   -- A call made on a book, with its answer: it answers and changes the book by the rules, and so follows its history. What tickets
   -- go by stands by itself: the mark, which stays, and how many groups are open.
-  pub record Called (s : BookState P K) (c : Call E) (a : Answer) (s' : BookState P K) : Type 0 where
+  pub record CallStep (s : BookState P K) (c : Call E) (a : Answer) (s' : BookState P K) : Type 0 where
     pub value : a ≡ says R s c
     pub after : s' ≡ after R s c
-    pub shows : Follows s c a s'
+    pub represents : Simulates s c a s'
     pub mark : s'.state.mark ≡ s.state.mark
     pub depth : length s'.state.groups ≡ depth_after c (accepted a) (length s.state.groups)

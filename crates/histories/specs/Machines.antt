@@ -4,10 +4,10 @@ use Rattle.groups.specs.History.{History}
 use Rattle.histories.specs.Answers.{Answer}
 use Rattle.histories.specs.Calls.{Call}
 use Rattle.histories.specs.Rules.{Parameters, BookState, Rules, says, after}
-use Rattle.histories.specs.Histories.{summary_of, answers, fed}
+use Rattle.histories.specs.Histories.{summary_of, answers, history_after}
 
--- What a subject answers to a call, what it is afterwards, and what can be seen of it; and the mark of its tickets.
-pub record Subject (P E X : Type 0) : Type 0 where
+-- What a machine answers to a call, what it is afterwards, and what can be seen of it; and the mark of its tickets.
+pub record Machine (P E X : Type 0) : Type 0 where
   pub mark : X → ℕ
   pub says : X → Call E → Answer
   pub after : X → Call E → X
@@ -19,14 +19,14 @@ pub record View (P : Type 0) : Type 0 where
   pub rows : List P
   pub depth : ℕ
 
--- What is seen of a subject.
-abbrev pub view_of : {P E X : Type 0} → Subject P E X → X → View P
+-- What is seen of a machine.
+abbrev pub view_of : {P E X : Type 0} → Machine P E X → X → View P
 view_of S x = record { rows = S.rows x; depth = S.depth x }
 
 module _ {P E K : Type 0} (R : Rules P E K) where
   -- A book.
-  abbrev pub of_book : Subject P E (BookState P K)
-  of_book = record {
+  abbrev pub book_machine : Machine P E (BookState P K)
+  book_machine = record {
     mark = λ b. b.state.mark;
     says = says R;
     after = after R;
@@ -35,11 +35,11 @@ module _ {P E K : Type 0} (R : Rules P E K) where
   }
 
   -- A history: it knows what creation was told and the calls that still count, and nothing of a book.
-  abbrev pub of_history : Parameters K → Subject P E (History E)
-  of_history t = record {
+  abbrev pub history_machine : Parameters K → Machine P E (History E)
+  history_machine t = record {
     mark = λ h. t.mark;
     says = answers R t;
-    after = fed R t;
+    after = history_after R t;
     rows = λ h. (summary_of R t h).rows;
     depth = λ h. (summary_of R t h).depth;
   }

@@ -8,7 +8,7 @@ use Rattle.detection.specs.declared.verdict.Detection.{Detection}
 use Rattle.histories.specs.Answers.{Answer}
 use Rattle.histories.specs.Calls.{Call}
 use Rattle.histories.specs.Rules.{Rules}
-use Rattle.histories.specs.Machines.{Subject, View, view_of}
+use Rattle.histories.specs.Machines.{Machine, View, view_of}
 
 -- A call and its answer; a detection, to which memory is lent, each time perhaps another: the event tells what it held before and after; or
 -- what only this kind of book knows, as a script.
@@ -17,8 +17,8 @@ pub data Event (E M : Type 0) : Type 0 where
   detected : (job : ℕ) (was : List RunRecord) (before : Carried) → Result Detection DetectionFault → (is : List RunRecord) (after : Carried) → Event E M
   special : M → Event E M
 
-module _ {P E K M X : Type 0} (R : Rules P E K) (S : Subject P E X) (Happens : X → M → X → Type 0) where
-  -- An event happens to a subject by the rules: of calls, of detections on its rows, which change nothing, or of what this kind knows.
+module _ {P E K M X : Type 0} (R : Rules P E K) (S : Machine P E X) (Happens : X → M → X → Type 0) where
+  -- An event happens to a machine by the rules: of calls, of detections on its rows, which change nothing, or of what this kind knows.
   pub data Does : X → Event E M → X → Type 0 where
     calls : {x : X} {c : Call E} → Does x (made c (S.says x c)) (S.after x c)
     detects : {x : X} {job : ℕ} {was is : List RunRecord} {before after : Carried} {r : Result Detection DetectionFault}

@@ -5,13 +5,13 @@ use Rattle.groups.specs.History.{History, history}
 use Rattle.groups.specs.State.{Summary, summary}
 use Rattle.histories.specs.Answers.{done, accepted, not_innermost}
 use Rattle.histories.specs.Calls.{Call, edits, opens, keeps, cancels}
-use Rattle.histories.specs.Histories.{answers, summary_of, listed, depth_after}
+use Rattle.histories.specs.Histories.{answers, summary_of, lists_after, depth_after}
 use Rattle.histories.specs.Rules.{Parameters, parameters, Rules, says, after, ending_answer}
-use Rattle.histories.specs.Machines.{Subject, of_book, of_history}
-use Rattle.histories.proofs.SimulationLemmas.{called}
+use Rattle.histories.specs.Machines.{Machine, book_machine, history_machine}
+use Rattle.histories.proofs.SimulationLemmas.{call_step}
 
 -- No call changes the mark, an accepted one changes the depth as it says, and the innermost group can be cancelled.
-pub record CountsGroups {P E X : Type 0} (S : Subject P E X) : Type 0 where
+pub record CountsGroups {P E X : Type 0} (S : Machine P E X) : Type 0 where
   pub mark : (x : X) (c : Call E) → S.mark (S.after x c) ≡ S.mark x
   pub depth : (x : X) (c : Call E) → S.depth (S.after x c) ≡ depth_after c (accepted (S.says x c)) (S.depth x)
   pub cancels : (x : X) → 0 < S.depth x → S.says x (cancels (S.mark x) (S.depth x)) ≡ done
@@ -22,31 +22,31 @@ module _ {P E K : Type 0} (R : Rules P E K) where
       ap (λ q. cond q done (not_innermost t.mark f.depth))
       (and_from _ _ (eq-eqb t.mark t.mark refl) (and_from _ _ (eq-eqb f.depth f.depth refl) (lt-ltb 0 f.depth l)))
 
-  pub of_book_counts : CountsGroups (of_book R)
+  pub of_book_counts : CountsGroups (book_machine R)
   of_book_counts = record {
-    mark = λ b c. (called R b c (says R b c) (after R b c) refl refl).mark;
-    depth = λ b c. (called R b c (says R b c) (after R b c) refl refl).depth;
+    mark = λ b c. (call_step R b c (says R b c) (after R b c) refl refl).mark;
+    depth = λ b c. (call_step R b c (says R b c) (after R b c) refl refl).depth;
     cancels = λ b l. fitting_ending (parameters b) (summary b.state) l;
   }
 
   module _ (t : Parameters K) where
-    depth_listed : (h : History E) (c : Call E) (q : Bool) → (summary_of R t (cond q (listed h c) h)).depth ≡ depth_after c q (summary_of R t h).depth
-    depth_listed h (edits e) false = refl
-    depth_listed h opens false = refl
-    depth_listed h (keeps mark depth) false = refl
-    depth_listed h (cancels mark depth) false = refl
-    depth_listed (history o []) (edits e) true = refl
-    depth_listed (history o (g ∷ gs)) (edits e) true = refl
-    depth_listed (history o gs) opens true = omega arith
-    depth_listed (history o []) (keeps mark depth) true = refl
-    depth_listed (history o (g ∷ [])) (keeps mark depth) true = refl
-    depth_listed (history o (g ∷ (h ∷ gs))) (keeps mark depth) true = omega arith
-    depth_listed (history o []) (cancels mark depth) true = refl
-    depth_listed (history o (g ∷ gs)) (cancels mark depth) true = omega arith
+    depth_of_lists_after : (h : History E) (c : Call E) (q : Bool) → (summary_of R t (cond q (lists_after h c) h)).depth ≡ depth_after c q (summary_of R t h).depth
+    depth_of_lists_after h (edits e) false = refl
+    depth_of_lists_after h opens false = refl
+    depth_of_lists_after h (keeps mark depth) false = refl
+    depth_of_lists_after h (cancels mark depth) false = refl
+    depth_of_lists_after (history o []) (edits e) true = refl
+    depth_of_lists_after (history o (g ∷ gs)) (edits e) true = refl
+    depth_of_lists_after (history o gs) opens true = omega arith
+    depth_of_lists_after (history o []) (keeps mark depth) true = refl
+    depth_of_lists_after (history o (g ∷ [])) (keeps mark depth) true = refl
+    depth_of_lists_after (history o (g ∷ (h ∷ gs))) (keeps mark depth) true = omega arith
+    depth_of_lists_after (history o []) (cancels mark depth) true = refl
+    depth_of_lists_after (history o (g ∷ gs)) (cancels mark depth) true = omega arith
 
-    pub of_history_counts : CountsGroups (of_history R t)
+    pub of_history_counts : CountsGroups (history_machine R t)
     of_history_counts = record {
       mark = λ h c. refl;
-      depth = λ h c. depth_listed h c (accepted (answers R t h c));
+      depth = λ h c. depth_of_lists_after h c (accepted (answers R t h c));
       cancels = λ h l. fitting_ending t (summary_of R t h) l;
     }

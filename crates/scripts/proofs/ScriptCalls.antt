@@ -1,4 +1,4 @@
--- A script's calls: on a subject that counts its groups by its calls, as a book and a history do, a script is the calls that it counts as.
+-- A script's calls: on a machine that counts its groups by its calls, as a book and a history do, a script is the calls that it counts as.
 use Rattle.std.proofs.Common.{◌≡◌, ℕ, zero, suc, ◌+◌, ◌-◌, ◌≤◌, Bool, true, false, List, [], ◌∷◌, ◌++◌, length, take, drop, flat_map, Option, Some, None, Result, MatchBool, sym, refl, ap, ◌∙◌, subst, append_assoc, append-nil, arith, nat_lt, IfOk}
 use Rattle.std.proofs.lemmas.List.{length-append}
 use Rattle.std.proofs.Math.Seq.{take-append_seam}
@@ -8,7 +8,7 @@ use Rattle.groups.specs.declared.store.Ending.TheVariants.{Keep, Cancel}
 use Rattle.histories.specs.Answers.{accepted}
 use Rattle.histories.specs.Calls.{Call, edits, opens, cancels, ends}
 use Rattle.histories.specs.Histories.{depth_after}
-use Rattle.histories.specs.Machines.{Subject, of_book}
+use Rattle.histories.specs.Machines.{Machine, book_machine}
 use Rattle.store.specs.Edits.{Edit}
 use Rattle.scripts.specs.Commands.{Command, makes, opening, ending, detecting, whole, head}
 use Rattle.scripts.specs.Workspace.{Lent}
@@ -37,8 +37,8 @@ groups_after-add (ending e ∷ cs) own others w =
     ap (λ k. groups_after k cs) less ∙ groups_after-add cs (own - 1) others w.1
 groups_after-add (detecting job ∷ cs) own others w = groups_after-add cs own others w
 
-module _ {X : Type 0} (S : Subject Waiting Edit X) where
-  -- Calls that are made on a subject, all of them accepted, and leave it as another.
+module _ {X : Type 0} (S : Machine Waiting Edit X) where
+  -- Calls that are made on a machine, all of them accepted, and leave it as another.
   pub record Made (x : X) (calls : List (Call Edit)) (y : X) : Type 0 where
     pub accepted : AllAccepted S x calls
     pub leaves : y ≡ after_calls S x calls
@@ -249,5 +249,5 @@ module _ {X : Type 0} (S : Subject Waiting Edit X) where
     scripted_counts l m script a w = counts_if (nat_lt script_max (length script)) l m script a w
 
 -- a script that a book runs
-pub ran_counts : {s s' : PlainBook} {l l' : Lent} {script : List ℕ} {a : Result FinishedScript StoppedScript} → RanScript s l script a s' l' → CountsAs (of_book plain) s script a s'
-ran_counts {l = l} {l' = l'} {script = script} {a = a} r = scripted_counts (of_book plain) (of_book_counts plain) l l' script a r.does
+pub ran_counts : {s s' : PlainBook} {l l' : Lent} {script : List ℕ} {a : Result FinishedScript StoppedScript} → RanScript s l script a s' l' → CountsAs (book_machine plain) s script a s'
+ran_counts {l = l} {l' = l'} {script = script} {a = a} r = scripted_counts (book_machine plain) (of_book_counts plain) l l' script a r.does

@@ -4,7 +4,7 @@ use Rattle.carriers.specs.Meaning.{Carried}
 use Rattle.exchange.specs.declared.record.RunRecord.{RunRecord}
 use Rattle.scripts.specs.Commands.{Command}
 use Rattle.scripts.specs.Scripts.{Progress, CarriesOut, Stops}
-use Rattle.histories.specs.Machines.{of_book}
+use Rattle.histories.specs.Machines.{book_machine}
 use Rattle.scripts.specs.declared.fault.ScriptFault.{ScriptFault}
 use Rattle.scripts.specs.declared.tally.Tally.{Tally}
 use Rattle.scripts.specs.Workspace.{lent}
@@ -17,7 +17,7 @@ far s records carrier bytes t = record { subject = s; lent = lent records carrie
 
 -- A command is carried out, or a fault stops it and nothing changes.
 abbrev pub CarriedOut : Command → (before after : Progress PlainBook) → Result (Unit {0}) ScriptFault → Type 0
-CarriedOut c before after r = MatchResult r (λ _. CarriesOut (of_book plain) before c after) (λ fault. Stops (of_book plain) before c fault × (after ≡ before))
+CarriedOut c before after r = MatchResult r (λ _. CarriesOut (book_machine plain) before c after) (λ fault. Stops (book_machine plain) before c fault × (after ≡ before))
 
 -- The script has no more groups open than the book, and has written no more bytes than there are.
 pub record Within (s : PlainBook) (bytes : List ℕ) (t : Tally) : Type 0 where

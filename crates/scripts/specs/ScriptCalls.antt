@@ -5,7 +5,7 @@ use Rattle.rows.specs.Waiting.{Waiting}
 use Rattle.groups.specs.declared.store.Ending.TheVariants.{Keep, Cancel}
 use Rattle.histories.specs.Answers.{accepted}
 use Rattle.histories.specs.Calls.{Call, edits, opens, cancels, ends}
-use Rattle.histories.specs.Machines.{Subject}
+use Rattle.histories.specs.Machines.{Machine}
 use Rattle.store.specs.Edits.{Edit, requests, grants}
 use Rattle.scripts.specs.Commands.{Command, makes, opening, ending, detecting}
 use Rattle.scripts.specs.declared.fault.StoppedScript.{StoppedScript}
@@ -64,19 +64,19 @@ cancelling_calls mark depth (suc groups) = cancels mark depth ∷ cancelling_cal
 abbrev pub script_calls : (mark depth : ℕ) → List Command → List (Call Edit)
 script_calls mark depth commands = command_calls mark depth commands ++ cancelling_calls mark (groups_after depth commands) (groups_after 0 commands)
 
-module _ {P E X : Type 0} (S : Subject P E X) where
-  -- A subject after calls that are made in order.
+module _ {P E X : Type 0} (S : Machine P E X) where
+  -- A machine after calls that are made in order.
   abbrev pub after_calls : X → List (Call E) → X
   after_calls x calls = fold S.after x calls
 
-  -- Each call is accepted, as those before it have left the subject.
+  -- Each call is accepted, as those before it have left the machine.
   abbrev pub AllAccepted : X → List (Call E) → Type 0
   AllAccepted x [] = ⊤
   AllAccepted x (c ∷ calls) = (accepted (S.says x c) ≡ true) × AllAccepted (S.after x c) calls
 
 -- A script counts as calls, on a book or on a history. Its commands are told by its bytes, which are theirs, one behind the other, up to the
 -- one that a check stops; which check does, and that none stops those before it, the rules of scripts tell.
-pub record CountsAs {X : Type 0} (S : Subject Waiting Edit X) (x : X) (script : List ℕ) (answer : Result FinishedScript StoppedScript) (x' : X) : Type 0 where
+pub record CountsAs {X : Type 0} (S : Machine Waiting Edit X) (x : X) (script : List ℕ) (answer : Result FinishedScript StoppedScript) (x' : X) : Type 0 where
   pub commands : List Command
   pub bytes : flat_map command_bytes commands ≡ carried_bytes script answer
   pub number : length commands ≡ script_commands answer

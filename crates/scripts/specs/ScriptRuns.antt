@@ -3,10 +3,10 @@ use Rattle.std.specs.Prelude.{ℕ, List, Ok, Err, Result}
 use Rattle.groups.specs.History.{History}
 use Rattle.store.specs.Edits.{Edit}
 use Rattle.histories.specs.Rules.{parameters}
-use Rattle.histories.specs.Histories.{Shows}
+use Rattle.histories.specs.Histories.{Represents}
 use Rattle.scripts.specs.Workspace.{Lent}
 use Rattle.scripts.specs.Scripts.{Scripted}
-use Rattle.histories.specs.Machines.{of_book, of_history}
+use Rattle.histories.specs.Machines.{book_machine, history_machine}
 use Rattle.scripts.specs.declared.fault.StoppedScript.{StoppedScript}
 use Rattle.scripts.specs.declared.fault.FinishedScript.{FinishedScript}
 use Rattle.store.specs.Plain.{plain}
@@ -15,8 +15,8 @@ use Rattle.store.specs.Books.{PlainBook}
 -- The book does as the rules of scripts say; and whatever history it shows before, that history does the same by the same rules, and is
 -- the one that the book shows after.
 pub record RanScript (s : PlainBook) (l : Lent) (script : List ℕ) (answer : Result FinishedScript StoppedScript) (s' : PlainBook) (l' : Lent) : Type 0 where
-  pub does : Scripted (of_book plain) s l script answer s' l'
-  pub shows : (h : History Edit) → Shows plain s h → (h' : History Edit) × Scripted (of_history plain (parameters s)) h l script answer h' l' × Shows plain s' h'
+  pub does : Scripted (book_machine plain) s l script answer s' l'
+  pub represents : (h : History Edit) → Represents plain s h → (h' : History Edit) × Scripted (history_machine plain (parameters s)) h l script answer h' l' × Represents plain s' h'
 
 -- How many answer bytes a script has written.
 abbrev pub script_written : Result FinishedScript StoppedScript → ℕ

@@ -15,14 +15,14 @@ use Rattle.histories.specs.Calls.{Call, edits, opens, cancels, ends}
 use Rattle.scripts.specs.Commands.{Command, makes, opening, ending, detecting, Head, over, unknown, cut, whole, head}
 use Rattle.scripts.specs.Workspace.{Lent}
 use Rattle.scripts.specs.Limits.{script_max, detection_bytes}
-use Rattle.histories.specs.Machines.{Subject}
+use Rattle.histories.specs.Machines.{Machine}
 use Rattle.scripts.specs.declared.fault.ScriptFault.{ScriptFault}
 use Rattle.scripts.specs.ScriptFaults.{LayeredRefusal, refusal_of, by_script, by_book, by_detection}
 use Rattle.scripts.specs.declared.fault.StoppedScript.{StoppedScript}
 use Rattle.scripts.specs.declared.fault.FinishedScript.{FinishedScript}
 use Rattle.scripts.specs.declared.tally.Position.{Position}
 
--- How far a script has come: the subject, what is lent, how many bytes it has written and how many groups it has open.
+-- How far a script has come: the machine, what is lent, how many bytes it has written and how many groups it has open.
 pub record Progress (X : Type 0) : Type 0 where
   pub subject : X
   pub lent : Lent
@@ -49,7 +49,7 @@ unreadable unknown = Some (by_script 14)
 unreadable cut = Some (by_script 15)
 unreadable (whole c n) = None
 
-module _ {X : Type 0} (S : Subject Waiting Edit X) where
+module _ {X : Type 0} (S : Machine Waiting Edit X) where
   -- How far a script is after a call, with so many groups of its own open.
   abbrev pub after_call : Progress X → Call Edit → (groups : ℕ) → Progress X
   after_call p c groups = record { subject = S.after p.subject c; lent = p.lent; written = p.written; groups = groups }

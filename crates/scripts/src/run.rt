@@ -4,7 +4,7 @@ ghost use Rattle.scripts.specs.Scripts.{cancel_groups as cancelling};
 ghost use Rattle.scripts.specs.ScriptCalls.{CountsAs};
 ghost use Rattle.scripts.specs.ScriptRuns.{RanScript, script_written};
 ghost use Rattle.scripts.specs.Workspace.{lent};
-ghost use Rattle.histories.specs.Machines.{of_book};
+ghost use Rattle.histories.specs.Machines.{book_machine};
 ghost use Rattle.store.specs.Plain.{plain};
 ghost use Rattle.histories.specs.Rules.{SameGroups};
 
@@ -31,7 +31,7 @@ pub fn run_script<C: Carrier>(
     answers: &mut [u8],
 ) -> Result<FinishedScript, StoppedScript>
     ensures ran { RanScript store.old (lent records.old (C.Carrier.carried carrier.old) answers.old) script.now result store.new (lent records.new (C.Carrier.carried carrier.new) answers.new) }
-    ensures counts { CountsAs (of_book plain) store.old script.now result store.new }
+    ensures counts { CountsAs (book_machine plain) store.old script.now result store.new }
     ensures written { script_written result ≤ length answers.new }
     ensures groups { SameGroups store.old store.new }
 {
@@ -79,7 +79,7 @@ pub fn run_script<C: Carrier>(
 // Cancels the innermost groups, so many.
 fn cancel_groups(store: &mut Store<'_>, groups: usize)
     requires { groups ≤ length store.old.state.groups }
-    ensures value { store.new ≡ cancelling (of_book plain) groups store.old }
+    ensures value { store.new ≡ cancelling (book_machine plain) groups store.old }
     ensures mark { store.new.state.mark ≡ store.old.state.mark }
     ensures depth { length store.new.state.groups ≡ length store.old.state.groups - groups }
 {

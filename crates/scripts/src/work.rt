@@ -4,7 +4,7 @@ ghost use Rattle.std.specs.Result.{result_err};
 ghost use Rattle.scripts.specs.Commands.{detecting};
 ghost use Rattle.scripts.specs.Reading.{command_of};
 ghost use Rattle.scripts.specs.Scripts.{Steps, Reads};
-ghost use Rattle.histories.specs.Machines.{of_book};
+ghost use Rattle.histories.specs.Machines.{book_machine};
 ghost use Rattle.scripts.specs.RunningScripts.{far, CarriedOut, Within};
 ghost use Rattle.store.specs.Plain.{plain};
 
@@ -86,7 +86,7 @@ fn step<C: Carrier>(
 ) -> Result<(), ScriptFault>
     requires place { place.old < length script.now }
     requires within { Within store.old answers.old tally.old }
-    ensures steps { Steps (of_book plain) (drop place.old script.now) (far store.old records.old (C.Carrier.carried carrier.old) answers.old tally.old) (result_err result) (far store.new records.new (C.Carrier.carried carrier.new) answers.new tally.new) (place.new - place.old) }
+    ensures steps { Steps (book_machine plain) (drop place.old script.now) (far store.old records.old (C.Carrier.carried carrier.old) answers.old tally.old) (result_err result) (far store.new records.new (C.Carrier.carried carrier.new) answers.new tally.new) (place.new - place.old) }
     ensures place { MatchResult result (λ _. (place.old < place.new) × (place.new ≤ length script.now)) (λ _. place.new ≡ place.old) }
     ensures within { Within store.new answers.new tally.new }
     ensures mark { store.new.state.mark ≡ store.old.state.mark }
@@ -115,7 +115,7 @@ pub fn work<C: Carrier>(
 ) -> Result<(), ScriptFault>
     requires position { position.old.index ≤ position.old.offset × position.old.offset ≤ length script.now }
     requires within { Within store.old answers.old tally.old }
-    ensures reads { Reads (of_book plain) (drop position.old.offset script.now) position.old (far store.old records.old (C.Carrier.carried carrier.old) answers.old tally.old) (result_err result) position.new (far store.new records.new (C.Carrier.carried carrier.new) answers.new tally.new) }
+    ensures reads { Reads (book_machine plain) (drop position.old.offset script.now) position.old (far store.old records.old (C.Carrier.carried carrier.old) answers.old tally.old) (result_err result) position.new (far store.new records.new (C.Carrier.carried carrier.new) answers.new tally.new) }
     ensures within { Within store.new answers.new tally.new }
     ensures mark { store.new.state.mark ≡ store.old.state.mark }
     ensures depth { length store.new.state.groups + tally.old.groups ≡ length store.old.state.groups + tally.new.groups }

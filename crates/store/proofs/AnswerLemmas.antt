@@ -25,7 +25,7 @@ use Rattle.histories.specs.Rules.{says, book_state}
 use Rattle.histories.specs.Answers.{Answer, done}
 use Rattle.store.specs.EditAnswers.{refusal, refused_at}
 use Rattle.store.specs.Replies.{told, told_stub}
-use Rattle.histories.specs.Histories.{Called}
+use Rattle.histories.specs.Histories.{CallStep}
 use Rattle.store.specs.Memory.{Lawful}
 use Rattle.histories.proofs.TicketIdAnswers.{ticket_id_answer}
 use Rattle.histories.proofs.CallLemmas.{open_call_step, stopped_call_step, edit_call_step}
@@ -43,7 +43,7 @@ opening_told : (r : Option TicketId) → told_stub (ok_or r TooDeep) ≡ ticket_
 opening_told (Some k) = refl
 opening_told None = refl
 
-pub opening_call_step : (n : ℕ) (s t : State PlainRow) (r : Option TicketId) → r ≡ cond (ltb (summary s).depth 8) (Some (record { mark = s.mark; depth = (summary s).depth + 1 })) None → t ≡ cond (ltb (summary s).depth 8) (opened s) s → Called plain (book_of (view n waiting s)) opens (told_stub (ok_or r TooDeep)) (book_of (view n waiting t))
+pub opening_call_step : (n : ℕ) (s t : State PlainRow) (r : Option TicketId) → r ≡ cond (ltb (summary s).depth 8) (Some (record { mark = s.mark; depth = (summary s).depth + 1 })) None → t ≡ cond (ltb (summary s).depth 8) (opened s) s → CallStep plain (book_of (view n waiting s)) opens (told_stub (ok_or r TooDeep)) (book_of (view n waiting t))
 opening_call_step n s t r e f = rw (opening_told r) (open_call_step n waiting plain tt s t r e f)
 
 -- ---- edits
@@ -104,16 +104,16 @@ placed_is false None w v e = cc
 placed_is false (Some place) w v e = absurd (cc e)
 
 module _ (s : PlainBook) (n : ℕ) (jobs : n ≡ length s.state.rows) where
-  refused : (e : Edit) (fault : BookFault) → refusal fault ≡ says plain s (edits e) → Called plain s (edits e) (refusal fault) s
+  refused : (e : Edit) (fault : BookFault) → refusal fault ≡ says plain s (edits e) → CallStep plain s (edits e) (refusal fault) s
   refused e fault p = stopped_call_step plain s e (refusal fault) (refusal fault) refl refl p
 
   module _ (job need : ℕ) (targets : List ℕ) where
-    pub no_job : n ≤ job → Called plain s (edits (requests job need targets)) (refusal NoSuchJob) s
+    pub no_job : n ≤ job → CallStep plain s (edits (requests job need targets)) (refusal NoSuchJob) s
     no_job l =
         let q : leb (length s.state.rows) job ≡ true = le-leb _ _ (omega (arith, jobs)) in
         refused (requests job need targets) NoSuchJob (rw q)
 
-    pub is_blocked : job < n → 0 < (at s.state.rows job).need → Called plain s (edits (requests job need targets)) (refusal Blocked) s
+    pub is_blocked : job < n → 0 < (at s.state.rows job).need → CallStep plain s (edits (requests job need targets)) (refusal Blocked) s
     is_blocked l b =
         let q : leb (length s.state.rows) job ≡ false = lt-leb _ _ (omega (arith, jobs)) in
         let r : ltb 0 (at s.state.rows job).need ≡ true = lt-ltb _ _ b in
@@ -125,12 +125,12 @@ module _ (s : PlainBook) (n : ℕ) (jobs : n ≡ length s.state.rows) where
         let r : ltb 0 (at s.state.rows job).need ≡ false = le-ltb _ _ b in
         rw (q, r, ← jobs) (made_told (wrong_counts need (length targets)) (first_wrong n job 0 0 targets) (record { need = need; targets = targets }) _)
 
-    pub no_row : job < n → (at s.state.rows job).need ≤ 0 → (e : RowFault) (r : Result (Unit {0}) BookFault) → Err e ≡ requested n job need targets → IsErrAnd r (λ y. y ≡ of_row e) → Called plain s (edits (requests job need targets)) (told r) s
+    pub no_row : job < n → (at s.state.rows job).need ≤ 0 → (e : RowFault) (r : Result (Unit {0}) BookFault) → Err e ≡ requested n job need targets → IsErrAnd r (λ y. y ≡ of_row e) → CallStep plain s (edits (requests job need targets)) (told r) s
     no_row l b e r f h =
         stopped_call_step plain s (requests job need targets) (told r) (refusal (of_row e)) refl (carried_fault r (of_row e) h)
         (sym (request_says l b ∙ ap (λ k. stop_of k (cond (full s.state.trail_room (summary s.state)) (refusal TrailFull) done)) (sym f)))
 
-    pub request_call_step : job < n → (at s.state.rows job).need ≤ 0 → (w : Waiting) (a : Answer) (t : PlainBook) → Ok w ≡ requested n job need targets → a ≡ cond (full s.state.trail_room (summary s.state)) (refusal TrailFull) done → t ≡ cond (full s.state.trail_room (summary s.state)) s (book_state s.fixed (written s.state job w)) → Called plain s (edits (requests job need targets)) a t
+    pub request_call_step : job < n → (at s.state.rows job).need ≤ 0 → (w : Waiting) (a : Answer) (t : PlainBook) → Ok w ≡ requested n job need targets → a ≡ cond (full s.state.trail_room (summary s.state)) (refusal TrailFull) done → t ≡ cond (full s.state.trail_room (summary s.state)) s (book_state s.fixed (written s.state job w)) → CallStep plain s (edits (requests job need targets)) a t
     request_call_step l b w a t f g h =
         edit_call_step plain s t (requests job need targets) w a
         (sym (placed_is (wrong_counts need (length targets)) (first_wrong n job 0 0 targets) (record { need = need; targets = targets }) w (sym f)))
@@ -138,7 +138,7 @@ module _ (s : PlainBook) (n : ℕ) (jobs : n ≡ length s.state.rows) where
         g h
 
   module _ (granter waiter : ℕ) where
-    pub no_jobs : (n ≤ granter) ⊎ ((granter < n) × (n ≤ waiter)) → Called plain s (edits (grants granter waiter)) (refusal NoSuchJob) s
+    pub no_jobs : (n ≤ granter) ⊎ ((granter < n) × (n ≤ waiter)) → CallStep plain s (edits (grants granter waiter)) (refusal NoSuchJob) s
     no_jobs past =
         let k = jobs in
         let q : (leb (length s.state.rows) granter || leb (length s.state.rows) waiter) ≡ true = grind (arith, nat_tests) in
@@ -147,7 +147,7 @@ module _ (s : PlainBook) (n : ℕ) (jobs : n ≡ length s.state.rows) where
     both : granter < n → waiter < n → (leb (length s.state.rows) granter || leb (length s.state.rows) waiter) ≡ false
     both l m = let k = jobs in grind (arith, nat_tests)
 
-    pub is_stuck : granter < n → waiter < n → 0 < (at s.state.rows granter).need → Called plain s (edits (grants granter waiter)) (refusal GranterBlocked) s
+    pub is_stuck : granter < n → waiter < n → 0 < (at s.state.rows granter).need → CallStep plain s (edits (grants granter waiter)) (refusal GranterBlocked) s
     is_stuck l m b =
         let r : ltb 0 (at s.state.rows granter).need ≡ true = lt-ltb _ _ b in
         refused (grants granter waiter) GranterBlocked (rw (both l m, r))
@@ -157,14 +157,14 @@ module _ (s : PlainBook) (n : ℕ) (jobs : n ≡ length s.state.rows) where
         let r : ltb 0 (at s.state.rows granter).need ≡ false = le-ltb _ _ b in
         rw (both l m, r)
 
-    pub no_wait : granter < n → waiter < n → (at s.state.rows granter).need ≤ 0 → (w : Option Row) (e : BookFault) (r : Result (Unit {0}) BookFault) → seen_some w ≡ granted_by granter (at s.state.rows waiter) → Err e ≡ ok_or w NoSuchWait → IsErrAnd r (λ y. y ≡ e) → Called plain s (edits (grants granter waiter)) (told r) s
+    pub no_wait : granter < n → waiter < n → (at s.state.rows granter).need ≤ 0 → (w : Option Row) (e : BookFault) (r : Result (Unit {0}) BookFault) → seen_some w ≡ granted_by granter (at s.state.rows waiter) → Err e ≡ ok_or w NoSuchWait → IsErrAnd r (λ y. y ≡ e) → CallStep plain s (edits (grants granter waiter)) (told r) s
     no_wait l m b None e r f g h =
         let same : e ≡ NoSuchWait = cc g in
         stopped_call_step plain s (grants granter waiter) (told r) (refusal NoSuchWait) refl (carried_fault r e h ∙ ap refusal same)
         (sym (grant_says l m b ∙ ap (λ q. cond (not q) (refusal NoSuchWait) (cond (full s.state.trail_room (summary s.state)) (refusal TrailFull) done)) (grant_none granter (at s.state.rows waiter) f)))
     no_wait l m b (Some w) e r f g h = absurd (cc g)
 
-    pub grant_call_step : granter < n → waiter < n → (at s.state.rows granter).need ≤ 0 → (w : Waiting) (a : Answer) (t : PlainBook) → Some w ≡ granted_by granter (at s.state.rows waiter) → a ≡ cond (full s.state.trail_room (summary s.state)) (refusal TrailFull) done → t ≡ cond (full s.state.trail_room (summary s.state)) s (book_state s.fixed (written s.state waiter w)) → Called plain s (edits (grants granter waiter)) a t
+    pub grant_call_step : granter < n → waiter < n → (at s.state.rows granter).need ≤ 0 → (w : Waiting) (a : Answer) (t : PlainBook) → Some w ≡ granted_by granter (at s.state.rows waiter) → a ≡ cond (full s.state.trail_room (summary s.state)) (refusal TrailFull) done → t ≡ cond (full s.state.trail_room (summary s.state)) s (book_state s.fixed (written s.state waiter w)) → CallStep plain s (edits (grants granter waiter)) a t
     grant_call_step l m b w a t e g h =
         let some = grant_some granter (at s.state.rows waiter) w e in
         edit_call_step plain s t (grants granter waiter) w a some.1

@@ -9,7 +9,7 @@ use Rattle.book.specs.Edits.{Edit}
 use Rattle.book.specs.Rules.{Parameters}
 use Rattle.book.specs.Scripts.{Scripted}
 use Rattle.book.specs.Workspace.{lent}
-use Rattle.book.specs.Machines.{of_history}
+use Rattle.book.specs.Machines.{history_machine}
 use Rattle.book.specs.StoppedScript.{StoppedScript}
 use Rattle.book.specs.FinishedScript.{FinishedScript}
 use Rattle.tables.specs.Tables.{jobs_max, waits_max}
@@ -41,4 +41,4 @@ pub record ComesOut (script bytes : List ℕ) (answer : Result FinishedScript St
   pub history : History Edit
   pub records : List RunRecord
   pub carrier : Carried
-  pub scripted : Scripted (of_history plain program_parameters) begun (lent (replicate program_jobs blank) (new_carrier program_queue) bytes) script answer history (lent records carrier bytes')
+  pub scripted : Scripted (history_machine plain program_parameters) begun (lent (replicate program_jobs blank) (new_carrier program_queue) bytes) script answer history (lent records carrier bytes')

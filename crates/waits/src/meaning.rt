@@ -4,7 +4,7 @@ use detection::DetectionFault;
 use std::fmt;
 
 // What a refusal of the book means.
-fn of_book(fault: BookFault) -> &'static str {
+fn book_machine(fault: BookFault) -> &'static str {
     match fault {
         BookFault::NoSuchJob => "there is no such job",
         BookFault::Blocked => "the job is blocked",
@@ -36,7 +36,7 @@ fn meaning(fault: ScriptFault) -> &'static str {
         ScriptFault::CutOff => "the script ends inside a command",
         ScriptFault::NoScriptGroup => "no group of the script is open",
         ScriptFault::NoAnswerSpace => "no space is left for the answer",
-        ScriptFault::OfBook(fault) => of_book(fault),
+        ScriptFault::OfBook(fault) => book_machine(fault),
         ScriptFault::OfDetection(fault) => of_detection(fault),
     }
 }

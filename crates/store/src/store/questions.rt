@@ -5,7 +5,7 @@ ghost use Rattle.rows.specs.Law.{sound};
 ghost use Rattle.rows.specs.StoredRows.{waiting_of, waiting_or_idle};
 ghost use Rattle.groups.specs.Limits.{depth_max};
 ghost use Rattle.store.specs.Snapshots.{snapshot_view};
-ghost use Rattle.histories.specs.Machines.{of_book, view_of};
+ghost use Rattle.histories.specs.Machines.{book_machine, view_of};
 ghost use Rattle.store.specs.Plain.{plain};
 
 use crate::snapshot::Snapshot;
@@ -35,7 +35,7 @@ impl<'a> Store<'a> {
 
     /// What is seen of the book.
     pub fn snapshot(&self) -> Snapshot
-        ensures { snapshot_view result ≡ view_of (of_book plain) self.now }
+        ensures { snapshot_view result ≡ view_of (book_machine plain) self.now }
     {
         Snapshot {
             jobs: self.jobs,

@@ -1,7 +1,7 @@
 use Rattle.std.proofs.Common.{◌≡◌, ◌<◌, length, refl, ◌∙◌, ap, arith}
 use Rattle.std.proofs.lemmas.List.{take_more, take_more_set, take_all, take_rest, length-set, drop-set-lt}
 use Rattle.book.specs.declared.life.call.Call.TheVariants.{Open}
-use Rattle.histories.specs.Machines.{of_book, view_of}
+use Rattle.histories.specs.Machines.{book_machine, view_of}
 use Rattle.book.proofs.LifeInvariant.{alive_first, alive_next, alive_lived, behind_all}
 use Rattle.book.proofs.GrantLemmas.{grants_are_allowed}
 use Rattle.book.proofs.Lives.{law_of_plain_books}
@@ -39,4 +39,4 @@ returns-clause-grants g c = grants_are_allowed
 pub returns-clause-lived : goal.returns-clause-lived
 returns-clause-lived g c =
     let end : c.loop-place.place ≡ length c.args.calls.now = omega (arith, c.loop-place-test.false, c.loop-place.auto.place-end) in
-    rw (← end) (alive_lived _ _ _ _ c.snapshot-first.result (c.snapshot-first.ensures ∙ ap (view_of (of_book plain)) c.new-book.ensures.value) (rw (take_all c.loop-place.place c.args.calls.now (omega (arith, end))) at c.loop-place.invariant.0))
+    rw (← end) (alive_lived _ _ _ _ c.snapshot-first.result (c.snapshot-first.ensures ∙ ap (view_of (book_machine plain)) c.new-book.ensures.value) (rw (take_all c.loop-place.place c.args.calls.now (omega (arith, end))) at c.loop-place.invariant.0))

@@ -7,8 +7,8 @@ use Rattle.groups.specs.StateViews.{view}
 use Rattle.groups.proofs.ViewLemmas.{view_fresh}
 use Rattle.store.specs.Creation.{new_parameters}
 use Rattle.store.specs.Plain.{plain}
-use Rattle.histories.specs.Histories.{Shows}
-use Rattle.histories.proofs.SimulationLemmas.{fresh_shows}
+use Rattle.histories.specs.Histories.{Represents}
+use Rattle.histories.proofs.SimulationLemmas.{fresh_represents}
 use Rattle.store.proofs.LawfulMemory.{fresh_lawful}
 use Rattle.store.proofs.store.Store.new.Goals as goal
 use Rattle.store.specs.Books.{book_of}
@@ -24,4 +24,4 @@ returns c =
     let memory = length c.args.memory.now in
     let shown = ap (view n waiting) c.new.ensures ∙ view_fresh n waiting 256 c.idle.result mark memory c.created.ensures.bound ∙ ap (λ p. fresh n (waiting p) mark memory) c.idle.ensures ∙ ap (λ k. fresh k idle mark memory) c.created.ensures.value in
     let made = ap book_of shown in
-    record { value = made; shows = subst (λ b. Shows plain b begun) (sym made) (fresh_shows plain (new_parameters c.args.jobs mark memory)) }
+    record { value = made; represents = subst (λ b. Represents plain b begun) (sym made) (fresh_represents plain (new_parameters c.args.jobs mark memory)) }
