@@ -8,9 +8,9 @@ use Rattle.exchange.specs.declared.record.RunRecord.{RunRecord}
 use Rattle.lives.specs.Events.{begins, lives}
 use Rattle.store.specs.Creation.{new_book, new_parameters}
 use Rattle.book.specs.Events.{BookEvent, LifeOfBook}
-use Rattle.scripts.specs.Workspace.{Lent, lent}
-use Rattle.book.specs.Moments.{answer_at, seen_at, written_by, AreEvents, nothing, then, Lived}
-use Rattle.book.specs.LifeSteps.{Performed}
+use Rattle.scripts.specs.Workspace.{Workspace, workspace}
+use Rattle.book.specs.Moments.{answer_at, seen_at, written_by, AreEvents, nothing, then, IsLife}
+use Rattle.book.specs.LifeSteps.{IsStep}
 use Rattle.store.specs.Snapshots.{snapshot_view}
 use Rattle.histories.specs.Machines.{book_machine, view_of}
 use Rattle.book.specs.declared.life.call.Answer.{Answer}
@@ -28,18 +28,18 @@ written_more w b xs ys l = ap (λ n. take (n + b) (take w xs ++ ys)) (sym (lengt
 unwritten_less : (w b : ℕ) (xs ys : List ℕ) → w ≤ length xs → drop (w + b) (take w xs ++ ys) ≡ drop b ys
 unwritten_less w b xs ys l = ap (λ n. drop (n + b) (take w xs ++ ys)) (sym (length-take-le w xs l)) ∙ drop-append-add (take w xs) ys b
 
-module _ (jobs mark memory : ℕ) (before : Lent) where
+module _ (jobs mark memory : ℕ) (before : Workspace) where
   -- A book is in a state after calls that have happened, with moments for them; so many answer bytes are written.
   pub record Alive (ks : List Call) (ms : List Moment) (s : PlainBook) (records : List RunRecord) (carrier : Carried) (answers : List ℕ) (written : ℕ) : Type 0 where
     pub events : List BookEvent
-    pub happened : AreEvents before ks (map answer_at ms) events (take written answers) (lent records carrier (drop written answers))
+    pub happened : AreEvents before ks (map answer_at ms) events (take written answers) (workspace records carrier (drop written answers))
     pub life : LifeOfBook (new_book jobs mark memory) events (map seen_at ms) s
     pub inside : written ≤ length answers
 
   pub alive_next : {ks : List Call} {ms : List Moment} {s s' : PlainBook} {records is : List RunRecord} {carrier after : Carried} {answers : List ℕ} {written : ℕ}
       → Alive ks ms s records carrier answers written
       → (k : Call) (a : Answer) (rest : List ℕ) (seen : Snapshot)
-      → Performed s (lent records carrier (drop written answers)) k a s' (lent is after rest)
+      → IsStep s (workspace records carrier (drop written answers)) k a s' (workspace is after rest)
       → written_by a ≤ length rest → snapshot_view seen ≡ view_of (book_machine plain) s'
       → Alive (ks ++ k ∷ []) (ms ++ record { answer = a; seen = seen } ∷ []) s' is after (take written answers ++ rest) (written + written_by a)
   alive_next {ks} {ms} {s} {s'} {records} {is} {carrier} {after} {answers} {written} alive k a rest seen p fits shown =
@@ -49,10 +49,10 @@ module _ (jobs mark memory : ℕ) (before : Lent) where
       record {
         events = alive.events ++ p.event ∷ [];
         happened =
-            subst (λ rs. AreEvents before (ks ++ k ∷ []) rs (alive.events ++ p.event ∷ []) (take (written + written_by a) (take written answers ++ rest)) (lent is after (drop (written + written_by a) (take written answers ++ rest))))
+            subst (λ rs. AreEvents before (ks ++ k ∷ []) rs (alive.events ++ p.event ∷ []) (take (written + written_by a) (take written answers ++ rest)) (workspace is after (drop (written + written_by a) (take written answers ++ rest))))
             (sym (map-append answer_at ms (moment ∷ [])))
-            (subst (λ bs. AreEvents before (ks ++ k ∷ []) (map answer_at ms ++ a ∷ []) (alive.events ++ p.event ∷ []) bs (lent is after (drop (written + written_by a) (take written answers ++ rest)))) more
-            (subst (λ bs. AreEvents before (ks ++ k ∷ []) (map answer_at ms ++ a ∷ []) (alive.events ++ p.event ∷ []) (take written answers ++ take (written_by a) rest) (lent is after bs)) less
+            (subst (λ bs. AreEvents before (ks ++ k ∷ []) (map answer_at ms ++ a ∷ []) (alive.events ++ p.event ∷ []) bs (workspace is after (drop (written + written_by a) (take written answers ++ rest)))) more
+            (subst (λ bs. AreEvents before (ks ++ k ∷ []) (map answer_at ms ++ a ∷ []) (alive.events ++ p.event ∷ []) (take written answers ++ take (written_by a) rest) (workspace is after bs)) less
             (then alive.happened p.happens)));
         life =
             subst (λ vs. LifeOfBook (new_book jobs mark memory) (alive.events ++ p.event ∷ []) vs s') (sym (map-append seen_at ms (moment ∷ [])))
@@ -64,25 +64,25 @@ module _ (jobs mark memory : ℕ) (before : Lent) where
   -- at the end the law tells the history
   pub alive_lived : {ks : List Call} {ms : List Moment} {s : PlainBook} {records : List RunRecord} {carrier : Carried} {answers : List ℕ} {written : ℕ} (first : Snapshot)
       → snapshot_view first ≡ view_of (book_machine plain) (new_book jobs mark memory)
-      → Alive ks ms s records carrier answers written → Lived jobs mark memory ks first ms before (lent records carrier answers)
+      → Alive ks ms s records carrier answers written → IsLife jobs mark memory ks first ms before (workspace records carrier answers)
   alive_lived {s = s} {records = records} {carrier = carrier} {answers = answers} {written = written} first seen alive =
       let law = law_of_plain_books (new_parameters jobs mark memory) in
       let told = law.1 alive.events _ _ alive.life in
       record {
         events = alive.events;
         bytes = take written answers;
-        left = lent records carrier (drop written answers);
+        left = workspace records carrier (drop written answers);
         happened = alive.happened;
         book = s;
         lived = alive.life;
         history = told.0;
         follows = told.1;
         created = seen ∙ law.0;
-        lent = ap (lent records carrier) (sym (take-append-drop written answers));
+        workspace = ap (workspace records carrier) (sym (take-append-drop written answers));
       }
 
 pub alive_first : (jobs mark memory : ℕ) (records : List RunRecord) (carrier : Carried) (answers : List ℕ) (s : PlainBook) → s ≡ new_book jobs mark memory
-    → Alive jobs mark memory (lent records carrier answers) [] [] s records carrier answers 0
+    → Alive jobs mark memory (workspace records carrier answers) [] [] s records carrier answers 0
 alive_first jobs mark memory records carrier answers s e = rw e (record { events = []; happened = nothing; life = begins; inside = omega arith })
 
 -- the bytes after a write to those that were unwritten

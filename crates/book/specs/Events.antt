@@ -6,10 +6,10 @@ use Rattle.histories.specs.Rules.{Parameters}
 use Rattle.histories.specs.Machines.{Machine, View, book_machine, history_machine}
 use Rattle.lives.specs.Events.{Event, special, Does, Life}
 use Rattle.store.specs.Edits.{Edit}
-use Rattle.scripts.specs.Workspace.{Lent}
+use Rattle.scripts.specs.Workspace.{Workspace}
 use Rattle.store.specs.Plain.{plain}
 use Rattle.scripts.specs.ScriptCalls.{CountsAs}
-use Rattle.scripts.specs.Scripts.{Scripted}
+use Rattle.scripts.specs.Scripts.{RunsScript}
 use Rattle.scripts.specs.declared.fault.StoppedScript.{StoppedScript}
 use Rattle.scripts.specs.declared.fault.FinishedScript.{FinishedScript}
 use Rattle.store.specs.Books.{PlainBook, Fixed}
@@ -17,21 +17,21 @@ use Rattle.store.specs.Books.{PlainBook, Fixed}
 -- A script and its answer, with what was lent to it, before and after.
 pub record ScriptRun : Type 0 where
   pub script : List ℕ
-  pub before : Lent
+  pub before : Workspace
   pub answer : Result FinishedScript StoppedScript
-  pub after : Lent
+  pub after : Workspace
 
 -- It happens to a machine by the rules of scripts.
-abbrev pub RunsScript : {X : Type 0} → Machine Waiting Edit X → X → ScriptRun → X → Type 0
-RunsScript S x r y = Scripted S x r.before r.script r.answer y r.after
+abbrev pub ScriptHappens : {X : Type 0} → Machine Waiting Edit X → X → ScriptRun → X → Type 0
+ScriptHappens S x r y = RunsScript S x r.before r.script r.answer y r.after
 
 -- To a book.
 abbrev pub RunsOnBook : PlainBook → ScriptRun → PlainBook → Type 0
-RunsOnBook = RunsScript (book_machine plain)
+RunsOnBook = ScriptHappens (book_machine plain)
 
 -- To a history, which is then fed the calls that the script counts as.
 pub record RunsOnHistory (t : Parameters Fixed) (h : History Edit) (r : ScriptRun) (i : History Edit) : Type 0 where
-  pub does : RunsScript (history_machine plain t) h r i
+  pub does : ScriptHappens (history_machine plain t) h r i
   pub counts : CountsAs (history_machine plain t) h r.script r.answer i
 
 -- What happens to a plain book.
@@ -39,8 +39,8 @@ abbrev pub BookEvent : Type 0
 BookEvent = Event Edit ScriptRun
 
 -- A script that is run, as an event.
-abbrev pub scripted : List ℕ → (before : Lent) → Result FinishedScript StoppedScript → (after : Lent) → BookEvent
-scripted script before answer after = special (record { script = script; before = before; answer = answer; after = after })
+abbrev pub script_event : List ℕ → (before : Workspace) → Result FinishedScript StoppedScript → (after : Workspace) → BookEvent
+script_event script before answer after = special (record { script = script; before = before; answer = answer; after = after })
 
 -- An event happens to a plain book.
 abbrev pub DoesOnBook : PlainBook → BookEvent → PlainBook → Type 0

@@ -1,5 +1,5 @@
 -- A call of a life that is made on a book.
-use Rattle.scripts.specs.Workspace.{Lent}
+use Rattle.scripts.specs.Workspace.{Workspace}
 use Rattle.book.specs.Moments.{IsEvent}
 use Rattle.book.specs.Events.{BookEvent, DoesOnBook}
 use Rattle.book.specs.declared.life.call.Answer.{Answer}
@@ -7,7 +7,7 @@ use Rattle.book.specs.declared.life.call.Call.{Call}
 use Rattle.store.specs.Books.{PlainBook}
 
 -- It is an event, and happens to the book by the rules.
-pub record Performed (s : PlainBook) (before : Lent) (k : Call) (a : Answer) (s' : PlainBook) (after : Lent) : Type 0 where
+pub record IsStep (s : PlainBook) (before : Workspace) (k : Call) (a : Answer) (s' : PlainBook) (after : Workspace) : Type 0 where
   pub event : BookEvent
   pub happens : IsEvent before k a event after
   pub does : DoesOnBook s event s'

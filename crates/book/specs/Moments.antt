@@ -11,9 +11,9 @@ use Rattle.detection.specs.declared.verdict.Detection.{Detection}
 use Rattle.store.specs.Edits.{Edit}
 use Rattle.histories.specs.Calls.{edits, opens, ends}
 use Rattle.lives.specs.Events.{made, detected}
-use Rattle.book.specs.Events.{BookEvent, scripted, LifeOfBook, LifeOfHistory}
+use Rattle.book.specs.Events.{BookEvent, script_event, LifeOfBook, LifeOfHistory}
 use Rattle.store.specs.Creation.{new_book, new_parameters}
-use Rattle.scripts.specs.Workspace.{Lent}
+use Rattle.scripts.specs.Workspace.{Workspace}
 use Rattle.scripts.specs.ScriptRuns.{script_written}
 use Rattle.store.specs.Snapshots.{snapshot_view}
 use Rattle.histories.specs.Machines.{history_machine, View, view_of}
@@ -48,33 +48,33 @@ written_by (Edited r) = 0
 written_by (Ran r) = script_written r
 
 -- A call with its answer is an event; `before` is what is lent to it, and `after` what is left.
-pub data IsEvent : (before : Lent) → Call → Answer → BookEvent → (after : Lent) → Type 0 where
-  opening : {l : Lent} {r : Result TicketId BookFault} → IsEvent l Open (Opened r) (made opens (told_stub r)) l
-  ending : {l : Lent} {e : Ending} {k : TicketId} {r : Result (Unit {0}) RefusedTicketId} → IsEvent l (End e k) (Ended r) (made (ends e k.mark k.depth) (told_ending_by r)) l
-  detecting : {l : Lent} {job : ℕ} {r : Result Detection DetectionFault} {is : List RunRecord} {after : Carried}
+pub data IsEvent : (before : Workspace) → Call → Answer → BookEvent → (after : Workspace) → Type 0 where
+  opening : {l : Workspace} {r : Result TicketId BookFault} → IsEvent l Open (Opened r) (made opens (told_stub r)) l
+  ending : {l : Workspace} {e : Ending} {k : TicketId} {r : Result (Unit {0}) RefusedTicketId} → IsEvent l (End e k) (Ended r) (made (ends e k.mark k.depth) (told_ending_by r)) l
+  detecting : {l : Workspace} {job : ℕ} {r : Result Detection DetectionFault} {is : List RunRecord} {after : Carried}
       → IsEvent l (Detect job) (Detected r) (detected job l.records l.carrier r is after) (record { records = is; carrier = after; bytes = l.bytes })
-  editing : {l : Lent} {e : _} {r : Result (Unit {0}) BookFault} → IsEvent l (Make e) (Edited r) (made (edits (edit_of e)) (told r)) l
-  running : {l m : Lent} {script : _} {r : Result FinishedScript StoppedScript} → IsEvent l (Run script) (Ran r) (scripted script.now l r m) m
+  editing : {l : Workspace} {e : _} {r : Result (Unit {0}) BookFault} → IsEvent l (Make e) (Edited r) (made (edits (edit_of e)) (told r)) l
+  running : {l m : Workspace} {script : _} {r : Result FinishedScript StoppedScript} → IsEvent l (Run script) (Ran r) (script_event script.now l r m) m
 
 -- The answer bytes that a call has written are not lent again.
-abbrev pub unwritten : Answer → Lent → Lent
+abbrev pub unwritten : Answer → Workspace → Workspace
 unwritten a l = record { records = l.records; carrier = l.carrier; bytes = drop (written_by a) l.bytes }
 
 -- The calls of a life, one after the other, with what is lent to each: what the one before has left. All the bytes written come one
 -- behind the other.
-pub data AreEvents (first : Lent) : List Call → List Answer → List BookEvent → (bytes : List ℕ) → Lent → Type 0 where
+pub data AreEvents (first : Workspace) : List Call → List Answer → List BookEvent → (bytes : List ℕ) → Workspace → Type 0 where
   nothing : AreEvents first [] [] [] [] first
-  then : {ks : List Call} {rs : List Answer} {es : List BookEvent} {bytes : List ℕ} {l m : Lent} {k : Call} {a : Answer} {e : BookEvent}
+  then : {ks : List Call} {rs : List Answer} {es : List BookEvent} {bytes : List ℕ} {l m : Workspace} {k : Call} {a : Answer} {e : BookEvent}
       → AreEvents first ks rs es bytes l → IsEvent l k a e m
       → AreEvents first (ks ++ k ∷ []) (rs ++ a ∷ []) (es ++ e ∷ []) (bytes ++ take (written_by a) m.bytes) (unwritten a m)
 
 -- A whole life was lived: the calls happened, with the answers given back; all this happened to a book, from its creation on, and to the
 -- history that was told the same at creation, both by the rules; and what is given back as seen was seen of them, at creation and after
 -- each call.
-pub record Lived (jobs mark memory : ℕ) (calls : List Call) (first : Snapshot) (moments : List Moment) (before after : Lent) : Type 0 where
+pub record IsLife (jobs mark memory : ℕ) (calls : List Call) (first : Snapshot) (moments : List Moment) (before after : Workspace) : Type 0 where
   pub events : List BookEvent
   pub bytes : List ℕ
-  pub left : Lent
+  pub left : Workspace
   pub happened : AreEvents before calls (map answer_at moments) events bytes left
   pub book : PlainBook
   pub lived : LifeOfBook (new_book jobs mark memory) events (map seen_at moments) book
@@ -83,4 +83,4 @@ pub record Lived (jobs mark memory : ℕ) (calls : List Call) (first : Snapshot)
   -- of the book the same is seen, by the law of lives
   pub created : snapshot_view first ≡ view_of (history_machine plain (new_parameters jobs mark memory)) begun
   -- what is left of the lent memory: the bytes written stand before those that were not
-  pub lent : after ≡ record { records = left.records; carrier = left.carrier; bytes = bytes ++ left.bytes }
+  pub workspace : after ≡ record { records = left.records; carrier = left.carrier; bytes = bytes ++ left.bytes }

@@ -11,9 +11,9 @@ ghost use Rattle.histories.specs.Calls.{edits, opens, keeps, cancels, ends};
 ghost use Rattle.histories.specs.Histories.{CallStep, Represents};
 ghost use Rattle.histories.specs.Machines.{book_machine, view_of};
 ghost use Rattle.store.specs.Snapshots.{snapshot_view};
-ghost use Rattle.scripts.specs.Workspace.{lent};
+ghost use Rattle.scripts.specs.Workspace.{workspace};
 ghost use Rattle.scripts.specs.ScriptCalls.{CountsAs};
-ghost use Rattle.scripts.specs.ScriptRuns.{RanScript, script_written};
+ghost use Rattle.scripts.specs.ScriptRuns.{ScriptStep, script_written};
 ghost use Rattle.histories.specs.Rules.{SameGroups};
 
 use crate::ticket::{RefusedEnding, Ticket};
@@ -136,7 +136,7 @@ impl<'a> Book<'a> {
         carrier: &mut C,
         answers: &mut [u8],
     ) -> Result<FinishedScript, StoppedScript>
-        ensures ran { RanScript self.old (lent records.old (C.Carrier.carried carrier.old) answers.old) script.now result self.new (lent records.new (C.Carrier.carried carrier.new) answers.new) }
+        ensures ran { ScriptStep self.old (workspace records.old (C.Carrier.carried carrier.old) answers.old) script.now result self.new (workspace records.new (C.Carrier.carried carrier.new) answers.new) }
         ensures counts { CountsAs (book_machine plain) self.old script.now result self.new }
         ensures written { script_written result ≤ length answers.new }
         ensures groups { SameGroups self.old self.new }

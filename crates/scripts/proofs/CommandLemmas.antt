@@ -14,7 +14,7 @@ use Rattle.histories.specs.Histories.{CallStep}
 use Rattle.scripts.specs.Commands.{Command, makes}
 use Rattle.scripts.specs.Scripts.{Progress, CarriesOut, Stops, edited}
 use Rattle.histories.specs.Machines.{book_machine}
-use Rattle.scripts.specs.RunningScripts.{far, CarriedOut}
+use Rattle.scripts.specs.RunningScripts.{progress_of, CarriedOut}
 use Rattle.store.specs.Plain.{plain}
 use Rattle.store.specs.Books.{PlainBook}
 
@@ -25,15 +25,15 @@ refused_leaves s s' c fault e f = f ∙ ap (λ a. cond (accepted a) (changed pla
 -- a fault that comes out of a call stops the command
 pub fault_stops : (c : Command) (p q : Progress PlainBook) (r : Result (Unit {0}) ScriptFault) (fault : ScriptFault)
     → IsErrAnd r (λ y. y ≡ fault) → Stops (book_machine plain) p c fault → q ≡ p → CarriedOut c p q r
-fault_stops c p q (Ok u) fault h stops same = absurd h
-fault_stops c p q (Err f) fault h stops same = rw h (stops, same)
+fault_stops c p q (Ok u) fault h refused same = absurd h
+fault_stops c p q (Err f) fault h refused same = rw h (refused, same)
 
 -- a call of the book that is refused, and one that is not
 module _ (s s' : PlainBook) (records : List RunRecord) (carrier : Carried) (bytes : List ℕ) (t : Tally) where
-  pub refused_far : (c : Call Edit) (fault : BookFault) → CallStep plain s c (refusal fault) s' → far s' records carrier bytes t ≡ far s records carrier bytes t
-  refused_far c fault k = ap (λ x. far x records carrier bytes t) (refused_leaves s s' c fault k.value k.after)
+  pub refused_far : (c : Call Edit) (fault : BookFault) → CallStep plain s c (refusal fault) s' → progress_of s' records carrier bytes t ≡ progress_of s records carrier bytes t
+  refused_far c fault k = ap (λ x. progress_of x records carrier bytes t) (refused_leaves s s' c fault k.value k.after)
 
-  pub edit_carried : (e : Edit) → CallStep plain s (edits e) done s' → CarriesOut (book_machine plain) (far s records carrier bytes t) (makes e) (far s' records carrier bytes t)
+  pub edit_carried : (e : Edit) → CallStep plain s (edits e) done s' → CarriesOut (book_machine plain) (progress_of s records carrier bytes t) (makes e) (progress_of s' records carrier bytes t)
   edit_carried e k = rw k.after (edited (sym k.value))
 
 -- what stands behind four bytes that are written

@@ -11,8 +11,8 @@ use Rattle.histories.specs.Histories.{depth_after}
 use Rattle.histories.specs.Machines.{Machine, book_machine}
 use Rattle.store.specs.Edits.{Edit}
 use Rattle.scripts.specs.Commands.{Command, makes, opening, ending, detecting, whole, head}
-use Rattle.scripts.specs.Workspace.{Lent}
-use Rattle.scripts.specs.Scripts.{Progress, CarriesOut, edited, opened, ended, answered, carries, stops, strange, Reads, finishes, faults, steps, cancel_groups, start, script_answer, Worked, Refused, Scripted}
+use Rattle.scripts.specs.Workspace.{Workspace}
+use Rattle.scripts.specs.Scripts.{Progress, CarriesOut, edited, opened, ended, answered, carried_out, refused, no_command, ReadAll, finishes, faults, steps, cancel_groups, start, script_answer, RunsCommands, Refused, RunsScript}
 use Rattle.scripts.specs.Limits.{script_max}
 use Rattle.scripts.specs.ScriptCalls.{command_bytes, carried_bytes, script_commands, groups_after, EndsOwnGroups, command_calls, cancelling_calls, after_calls, AllAccepted, CountsAs}
 use Rattle.scripts.specs.declared.fault.ScriptFault.{ScriptFault}
@@ -20,7 +20,7 @@ use Rattle.scripts.specs.declared.fault.StoppedScript.{StoppedScript}
 use Rattle.scripts.specs.declared.fault.FinishedScript.{FinishedScript}
 use Rattle.scripts.specs.declared.tally.Position.{Position}
 use Rattle.scripts.proofs.CommandBytes.{head_bytes}
-use Rattle.scripts.specs.ScriptRuns.{RanScript}
+use Rattle.scripts.specs.ScriptRuns.{ScriptStep}
 use Rattle.store.specs.Plain.{plain}
 use Rattle.store.specs.Books.{PlainBook}
 use Rattle.scripts.proofs.GroupCounts.{CountsGroups, of_book_counts}
@@ -72,9 +72,9 @@ module _ {X : Type 0} (S : Machine Waiting Edit X) where
       pub index : there.index ≡ here.index + length commands
       pub own : EndsOwnGroups p.groups commands
       pub groups : r.groups ≡ groups_after p.groups commands
-      pub made : Made p.subject (command_calls (S.mark p.subject) (S.depth p.subject) commands) r.subject
-      pub mark : S.mark r.subject ≡ S.mark p.subject
-      pub depth : S.depth r.subject ≡ groups_after (S.depth p.subject) commands
+      pub made : Made p.current (command_calls (S.mark p.current) (S.depth p.current) commands) r.current
+      pub mark : S.mark r.current ≡ S.mark p.current
+      pub depth : S.depth r.current ≡ groups_after (S.depth p.current) commands
 
     -- none
     commanded_none : (unread : List ℕ) (here : Position) (p : Progress X) (o : Option ScriptFault) → (o ≡ None → unread ≡ []) → Commanded unread here p o here p
@@ -87,7 +87,7 @@ module _ {X : Type 0} (S : Machine Waiting Edit X) where
       index = omega arith;
       own = tt;
       groups = refl;
-      made = made_none p.subject;
+      made = made_none p.current;
       mark = refl;
       depth = refl;
     }
@@ -96,9 +96,9 @@ module _ {X : Type 0} (S : Machine Waiting Edit X) where
     record First (p : Progress X) (c : Command) (q : Progress X) : Type 0 where
       own : (cs : List Command) → EndsOwnGroups q.groups cs → EndsOwnGroups p.groups (c ∷ cs)
       groups : (cs : List Command) → groups_after p.groups (c ∷ cs) ≡ groups_after q.groups cs
-      depth : (cs : List Command) → groups_after (S.depth p.subject) (c ∷ cs) ≡ groups_after (S.depth q.subject) cs
-      mark : S.mark q.subject ≡ S.mark p.subject
-      made : (cs : List Command) {y : X} → Made q.subject (command_calls (S.mark q.subject) (S.depth q.subject) cs) y → Made p.subject (command_calls (S.mark p.subject) (S.depth p.subject) (c ∷ cs)) y
+      depth : (cs : List Command) → groups_after (S.depth p.current) (c ∷ cs) ≡ groups_after (S.depth q.current) cs
+      mark : S.mark q.current ≡ S.mark p.current
+      made : (cs : List Command) {y : X} → Made q.current (command_calls (S.mark q.current) (S.depth q.current) cs) y → Made p.current (command_calls (S.mark p.current) (S.depth p.current) (c ∷ cs)) y
 
     -- a call that the command makes
     made_call : (x : X) (c : Call Edit) (d : ℕ) (cs : List Command) {y : X} → accepted (S.says x c) ≡ true → S.depth (S.after x c) ≡ d
@@ -111,34 +111,34 @@ module _ {X : Type 0} (S : Machine Waiting Edit X) where
     first : {p q : Progress X} {c : Command} → CarriesOut S p c q → First p c q
     first {p} (edited {e = e} a) =
         let taken = ap accepted a in
-        let d = depth_accepted p.subject (edits e) taken in
+        let d = depth_accepted p.current (edits e) taken in
         record {
           own = λ cs w. w;
           groups = λ cs. refl;
           depth = λ cs. ap (λ k. groups_after k cs) (sym d);
-          mark = counts.mark p.subject (edits e);
-          made = λ cs m. made_call p.subject (edits e) _ cs taken d m;
+          mark = counts.mark p.current (edits e);
+          made = λ cs m. made_call p.current (edits e) _ cs taken d m;
         }
     first {p} (opened a) =
         let taken = ap accepted a in
-        let d = depth_accepted p.subject opens taken in
+        let d = depth_accepted p.current opens taken in
         record {
           own = λ cs w. w;
           groups = λ cs. refl;
           depth = λ cs. ap (λ k. groups_after k cs) (sym d);
-          mark = counts.mark p.subject opens;
-          made = λ cs m. made_call p.subject opens _ cs taken d m;
+          mark = counts.mark p.current opens;
+          made = λ cs m. made_call p.current opens _ cs taken d m;
         }
     first {p} (ended {e = e} l a) =
-        let call = ends e (S.mark p.subject) (S.depth p.subject) in
+        let call = ends e (S.mark p.current) (S.depth p.current) in
         let taken = ap accepted a in
-        let d = depth_ended p.subject e (S.mark p.subject) (S.depth p.subject) taken in
+        let d = depth_ended p.current e (S.mark p.current) (S.depth p.current) taken in
         record {
           own = λ cs w. (l, w);
           groups = λ cs. refl;
           depth = λ cs. ap (λ k. groups_after k cs) (sym d);
-          mark = counts.mark p.subject call;
-          made = λ cs m. made_call p.subject call _ cs taken d m;
+          mark = counts.mark p.current call;
+          made = λ cs m. made_call p.current call _ cs taken d m;
         }
     first (answered l a) = record { own = λ cs w. w; groups = λ cs. refl; depth = λ cs. refl; mark = refl; made = λ cs m. m }
 
@@ -161,11 +161,11 @@ module _ {X : Type 0} (S : Machine Waiting Edit X) where
           depth = k.depth ∙ sym (f.depth k.commands);
         }
 
-    commanded : {unread : List ℕ} {here there : Position} {p r : Progress X} {o : Option ScriptFault} → Reads S unread here p o there r → Commanded unread here p o there r
+    commanded : {unread : List ℕ} {here there : Position} {p r : Progress X} {o : Option ScriptFault} → ReadAll S unread here p o there r → Commanded unread here p o there r
     commanded {here = here} {p = p} finishes = commanded_none [] here p None (λ e. refl)
-    commanded {unread} {here} {p = p} (faults {fault = fault} (stops e a)) = commanded_none unread here p (Some fault) (λ e. absurd (cc e))
-    commanded {unread} {here} {p = p} (faults {fault = fault} (strange e)) = commanded_none unread here p (Some fault) (λ e. absurd (cc e))
-    commanded (steps (carries {c = c} {n = n} e a) b) = commanded_first c n e a (commanded b)
+    commanded {unread} {here} {p = p} (faults {fault = fault} (refused e a)) = commanded_none unread here p (Some fault) (λ e. absurd (cc e))
+    commanded {unread} {here} {p = p} (faults {fault = fault} (no_command e)) = commanded_none unread here p (Some fault) (λ e. absurd (cc e))
+    commanded (steps (carried_out {c = c} {n = n} e a) b) = commanded_first c n e a (commanded b)
 
     -- The innermost groups, cancelled.
     record Cancelled (x : X) (groups : ℕ) : Type 0 where
@@ -193,7 +193,7 @@ module _ {X : Type 0} (S : Machine Waiting Edit X) where
       number : length commands ≡ script_commands a
       cancelled : IfOk a (λ finished. finished.cancelled ≡ groups_after 0 commands)
 
-    told : {script : List ℕ} {x : X} {l : Lent} {there : Position} {r : Progress X} (o : Option ScriptFault)
+    told : {script : List ℕ} {x : X} {l : Workspace} {there : Position} {r : Progress X} (o : Option ScriptFault)
         → (k : Commanded script (record { offset = 0; index = 0 }) (start S x l) o there r) → Told script k.commands (script_answer S o there r)
     told {script} None k =
         let bytes = flat_map command_bytes k.commands in
@@ -211,11 +211,11 @@ module _ {X : Type 0} (S : Machine Waiting Edit X) where
           cancelled = tt;
         }
 
-    pub worked_counts : {x y : X} {l m : Lent} {script : List ℕ} {a : Result FinishedScript StoppedScript} → Worked S x l script a y m → CountsAs S x script a y
+    pub worked_counts : {x y : X} {l m : Workspace} {script : List ℕ} {a : Result FinishedScript StoppedScript} → RunsCommands S x l script a y m → CountsAs S x script a y
     worked_counts {x} {y} {l} {script = script} {a = a} w =
         let k = commanded w.reads in
         let t = subst (λ b. Told script k.commands b) (sym w.says) (told w.fault k) in
-        let r = w.last.subject in
+        let r = w.last.current in
         let open_still = groups_after 0 k.commands in
         let among : S.depth r ≡ S.depth x + open_still =
         k.depth ∙ ap (λ n. groups_after n k.commands) (omega arith) ∙ groups_after-add k.commands 0 (S.depth x) k.own in
@@ -235,19 +235,19 @@ module _ {X : Type 0} (S : Machine Waiting Edit X) where
         }
 
     -- a script that is too long is no call
-    pub refused_counts : {x y : X} {l m : Lent} {script : List ℕ} {a : Result FinishedScript StoppedScript} → Refused S x l a y m → CountsAs S x script a y
+    pub refused_counts : {x y : X} {l m : Workspace} {script : List ℕ} {a : Result FinishedScript StoppedScript} → Refused S x l a y m → CountsAs S x script a y
     refused_counts {x} {y} {script = script} w =
         rw (w.says, w.leaves)
         (record { commands = []; bytes = refl; number = refl; own = tt; cancelled = tt; accepted = tt; leaves = refl; depth = refl })
 
-    counts_if : (q : Bool) {x y : X} (l m : Lent) (script : List ℕ) (a : Result FinishedScript StoppedScript)
-        → MatchBool q (Refused S x l a y m) (Worked S x l script a y m) → CountsAs S x script a y
+    counts_if : (q : Bool) {x y : X} (l m : Workspace) (script : List ℕ) (a : Result FinishedScript StoppedScript)
+        → MatchBool q (Refused S x l a y m) (RunsCommands S x l script a y m) → CountsAs S x script a y
     counts_if true l m script a w = refused_counts w
     counts_if false l m script a w = worked_counts w
 
-    pub scripted_counts : {x y : X} (l m : Lent) (script : List ℕ) (a : Result FinishedScript StoppedScript) → Scripted S x l script a y m → CountsAs S x script a y
+    pub scripted_counts : {x y : X} (l m : Workspace) (script : List ℕ) (a : Result FinishedScript StoppedScript) → RunsScript S x l script a y m → CountsAs S x script a y
     scripted_counts l m script a w = counts_if (nat_lt script_max (length script)) l m script a w
 
 -- a script that a book runs
-pub ran_counts : {s s' : PlainBook} {l l' : Lent} {script : List ℕ} {a : Result FinishedScript StoppedScript} → RanScript s l script a s' l' → CountsAs (book_machine plain) s script a s'
+pub ran_counts : {s s' : PlainBook} {l l' : Workspace} {script : List ℕ} {a : Result FinishedScript StoppedScript} → ScriptStep s l script a s' l' → CountsAs (book_machine plain) s script a s'
 ran_counts {l = l} {l' = l'} {script = script} {a = a} r = scripted_counts (book_machine plain) (of_book_counts plain) l l' script a r.does

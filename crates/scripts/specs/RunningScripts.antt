@@ -7,13 +7,13 @@ use Rattle.scripts.specs.Scripts.{Progress, CarriesOut, Stops}
 use Rattle.histories.specs.Machines.{book_machine}
 use Rattle.scripts.specs.declared.fault.ScriptFault.{ScriptFault}
 use Rattle.scripts.specs.declared.tally.Tally.{Tally}
-use Rattle.scripts.specs.Workspace.{lent}
+use Rattle.scripts.specs.Workspace.{workspace}
 use Rattle.store.specs.Plain.{plain}
 use Rattle.store.specs.Books.{PlainBook}
 
 -- How far a script on a book has come.
-abbrev pub far : PlainBook → List RunRecord → Carried → (bytes : List ℕ) → Tally → Progress PlainBook
-far s records carrier bytes t = record { subject = s; lent = lent records carrier bytes; written = t.written; groups = t.groups }
+abbrev pub progress_of : PlainBook → List RunRecord → Carried → (bytes : List ℕ) → Tally → Progress PlainBook
+progress_of s records carrier bytes t = record { current = s; workspace = workspace records carrier bytes; written = t.written; groups = t.groups }
 
 -- A command is carried out, or a fault stops it and nothing changes.
 abbrev pub CarriedOut : Command → (before after : Progress PlainBook) → Result (Unit {0}) ScriptFault → Type 0

@@ -4,8 +4,8 @@ use Rattle.groups.specs.History.{History}
 use Rattle.store.specs.Edits.{Edit}
 use Rattle.histories.specs.Rules.{parameters}
 use Rattle.histories.specs.Histories.{Represents}
-use Rattle.scripts.specs.Workspace.{Lent}
-use Rattle.scripts.specs.Scripts.{Scripted}
+use Rattle.scripts.specs.Workspace.{Workspace}
+use Rattle.scripts.specs.Scripts.{RunsScript}
 use Rattle.histories.specs.Machines.{book_machine, history_machine}
 use Rattle.scripts.specs.declared.fault.StoppedScript.{StoppedScript}
 use Rattle.scripts.specs.declared.fault.FinishedScript.{FinishedScript}
@@ -14,9 +14,9 @@ use Rattle.store.specs.Books.{PlainBook}
 
 -- The book does as the rules of scripts say; and whatever history it shows before, that history does the same by the same rules, and is
 -- the one that the book shows after.
-pub record RanScript (s : PlainBook) (l : Lent) (script : List ℕ) (answer : Result FinishedScript StoppedScript) (s' : PlainBook) (l' : Lent) : Type 0 where
-  pub does : Scripted (book_machine plain) s l script answer s' l'
-  pub represents : (h : History Edit) → Represents plain s h → (h' : History Edit) × Scripted (history_machine plain (parameters s)) h l script answer h' l' × Represents plain s' h'
+pub record ScriptStep (s : PlainBook) (l : Workspace) (script : List ℕ) (answer : Result FinishedScript StoppedScript) (s' : PlainBook) (l' : Workspace) : Type 0 where
+  pub does : RunsScript (book_machine plain) s l script answer s' l'
+  pub represents : (h : History Edit) → Represents plain s h → (h' : History Edit) × RunsScript (history_machine plain (parameters s)) h l script answer h' l' × Represents plain s' h'
 
 -- How many answer bytes a script has written.
 abbrev pub script_written : Result FinishedScript StoppedScript → ℕ

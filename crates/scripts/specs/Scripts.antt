@@ -13,7 +13,7 @@ use Rattle.histories.specs.Answers.{done, ticket, stopped}
 use Rattle.store.specs.Edits.{Edit}
 use Rattle.histories.specs.Calls.{Call, edits, opens, cancels, ends}
 use Rattle.scripts.specs.Commands.{Command, makes, opening, ending, detecting, Head, over, unknown, cut, whole, head}
-use Rattle.scripts.specs.Workspace.{Lent}
+use Rattle.scripts.specs.Workspace.{Workspace}
 use Rattle.scripts.specs.Limits.{script_max, detection_bytes}
 use Rattle.histories.specs.Machines.{Machine}
 use Rattle.scripts.specs.declared.fault.ScriptFault.{ScriptFault}
@@ -24,8 +24,8 @@ use Rattle.scripts.specs.declared.tally.Position.{Position}
 
 -- How far a script has come: the machine, what is lent, how many bytes it has written and how many groups it has open.
 pub record Progress (X : Type 0) : Type 0 where
-  pub subject : X
-  pub lent : Lent
+  pub current : X
+  pub workspace : Workspace
   pub written : ℕ
   pub groups : ℕ
 
@@ -52,7 +52,7 @@ unreadable (whole c n) = None
 module _ {X : Type 0} (S : Machine Waiting Edit X) where
   -- How far a script is after a call, with so many groups of its own open.
   abbrev pub after_call : Progress X → Call Edit → (groups : ℕ) → Progress X
-  after_call p c groups = record { subject = S.after p.subject c; lent = p.lent; written = p.written; groups = groups }
+  after_call p c groups = record { current = S.after p.current c; workspace = p.workspace; written = p.written; groups = groups }
 
   -- The ending of the innermost group, as its ticket would.
   abbrev pub ends_innermost : X → Ending → Call Edit
@@ -61,40 +61,40 @@ module _ {X : Type 0} (S : Machine Waiting Edit X) where
   -- How far it is after an accepted detection.
   abbrev pub after_detection : Progress X → (job : ℕ) → Detection → (is : List RunRecord) (after : Carried) → Progress X
   after_detection p job d is after = record {
-    subject = p.subject;
-    lent = record { records = is; carrier = after; bytes = with_answer p.lent.bytes p.written (answer_bytes job d) };
+    current = p.current;
+    workspace = record { records = is; carrier = after; bytes = with_answer p.workspace.bytes p.written (answer_bytes job d) };
     written = p.written + detection_bytes;
     groups = p.groups;
   }
 
   -- A command is carried out.
   pub data CarriesOut : Progress X → Command → Progress X → Type 0 where
-    edited : {p : Progress X} {e : Edit} → S.says p.subject (edits e) ≡ done → CarriesOut p (makes e) (after_call p (edits e) p.groups)
-    opened : {p : Progress X} {mark depth : ℕ} → S.says p.subject opens ≡ ticket mark depth → CarriesOut p opening (after_call p opens (p.groups + 1))
-    ended : {p : Progress X} {e : Ending} → 0 < p.groups → S.says p.subject (ends_innermost p.subject e) ≡ done
-        → CarriesOut p (ending e) (after_call p (ends_innermost p.subject e) (p.groups - 1))
-    answered : {p : Progress X} {job : ℕ} {d : Detection} {is : List RunRecord} {after : Carried} → p.written + detection_bytes ≤ length p.lent.bytes
-        → Detects (S.rows p.subject) job p.lent.records is p.lent.carrier after (Ok d) → CarriesOut p (detecting job) (after_detection p job d is after)
+    edited : {p : Progress X} {e : Edit} → S.says p.current (edits e) ≡ done → CarriesOut p (makes e) (after_call p (edits e) p.groups)
+    opened : {p : Progress X} {mark depth : ℕ} → S.says p.current opens ≡ ticket mark depth → CarriesOut p opening (after_call p opens (p.groups + 1))
+    ended : {p : Progress X} {e : Ending} → 0 < p.groups → S.says p.current (ends_innermost p.current e) ≡ done
+        → CarriesOut p (ending e) (after_call p (ends_innermost p.current e) (p.groups - 1))
+    answered : {p : Progress X} {job : ℕ} {d : Detection} {is : List RunRecord} {after : Carried} → p.written + detection_bytes ≤ length p.workspace.bytes
+        → Detects (S.rows p.current) job p.workspace.records is p.workspace.carrier after (Ok d) → CarriesOut p (detecting job) (after_detection p job d is after)
 
   -- A fault stops a command: the script's own checks come first, 16 and 17, and then those of the call. Which fault it is, is told by the
   -- refusal's layer, number and value.
   pub data Stops : Progress X → Command → ScriptFault → Type 0 where
-    not_edited : {p : Progress X} {e : Edit} {number : ℕ} {value : Option ℕ} {fault : ScriptFault} → S.says p.subject (edits e) ≡ stopped number value
+    not_edited : {p : Progress X} {e : Edit} {number : ℕ} {value : Option ℕ} {fault : ScriptFault} → S.says p.current (edits e) ≡ stopped number value
         → refusal_of fault ≡ by_book number value → Stops p (makes e) fault
-    not_opened : {p : Progress X} {number : ℕ} {value : Option ℕ} {fault : ScriptFault} → S.says p.subject opens ≡ stopped number value
+    not_opened : {p : Progress X} {number : ℕ} {value : Option ℕ} {fault : ScriptFault} → S.says p.current opens ≡ stopped number value
         → refusal_of fault ≡ by_book number value → Stops p opening fault
     no_group : {p : Progress X} {e : Ending} {fault : ScriptFault} → p.groups ≡ 0 → refusal_of fault ≡ by_script 16 → Stops p (ending e) fault
-    no_space : {p : Progress X} {job : ℕ} {fault : ScriptFault} → length p.lent.bytes < p.written + detection_bytes → refusal_of fault ≡ by_script 17
+    no_space : {p : Progress X} {job : ℕ} {fault : ScriptFault} → length p.workspace.bytes < p.written + detection_bytes → refusal_of fault ≡ by_script 17
         → Stops p (detecting job) fault
-    not_detected : {p : Progress X} {job number : ℕ} {fault : ScriptFault} → p.written + detection_bytes ≤ length p.lent.bytes
-        → stop (S.rows p.subject) job (length p.lent.records) p.lent.carrier ≡ Some number → refusal_of fault ≡ by_detection number
+    not_detected : {p : Progress X} {job number : ℕ} {fault : ScriptFault} → p.written + detection_bytes ≤ length p.workspace.bytes
+        → stop (S.rows p.current) job (length p.workspace.records) p.workspace.carrier ≡ Some number → refusal_of fault ≡ by_detection number
         → Stops p (detecting job) fault
 
   -- The command at the head of the bytes unread: it is carried out, and so many bytes are read; or there is a fault, and nothing changes.
-  pub data Steps : (unread : List ℕ) → Progress X → Option ScriptFault → Progress X → (bytes : ℕ) → Type 0 where
-    carries : {unread : List ℕ} {p q : Progress X} {c : Command} {n : ℕ} → head unread ≡ whole c n → CarriesOut p c q → Steps unread p None q n
-    stops : {unread : List ℕ} {p : Progress X} {c : Command} {n : ℕ} {fault : ScriptFault} → head unread ≡ whole c n → Stops p c fault → Steps unread p (Some fault) p 0
-    strange : {unread : List ℕ} {p : Progress X} {fault : ScriptFault} → unreadable (head unread) ≡ Some (refusal_of fault) → Steps unread p (Some fault) p 0
+  pub data ReadStep : (unread : List ℕ) → Progress X → Option ScriptFault → Progress X → (bytes : ℕ) → Type 0 where
+    carried_out : {unread : List ℕ} {p q : Progress X} {c : Command} {n : ℕ} → head unread ≡ whole c n → CarriesOut p c q → ReadStep unread p None q n
+    refused : {unread : List ℕ} {p : Progress X} {c : Command} {n : ℕ} {fault : ScriptFault} → head unread ≡ whole c n → Stops p c fault → ReadStep unread p (Some fault) p 0
+    no_command : {unread : List ℕ} {p : Progress X} {fault : ScriptFault} → unreadable (head unread) ≡ Some (refusal_of fault) → ReadStep unread p (Some fault) p 0
 
   -- So many bytes further on stands the next command.
   abbrev pub next : Position → (bytes : ℕ) → Position
@@ -102,10 +102,10 @@ module _ {X : Type 0} (S : Machine Waiting Edit X) where
 
   -- From the bytes unread: to their end, or to the first fault. A position tells where the next command begins, and how many were
   -- carried out before it.
-  pub data Reads : (unread : List ℕ) → Position → Progress X → Option ScriptFault → Position → Progress X → Type 0 where
-    finishes : {here : Position} {p : Progress X} → Reads [] here p None here p
-    faults : {unread : List ℕ} {here : Position} {p q : Progress X} {n : ℕ} {fault : ScriptFault} → Steps unread p (Some fault) q n → Reads unread here p (Some fault) here q
-    steps : {unread : List ℕ} {here there : Position} {p q r : Progress X} {n : ℕ} {o : Option ScriptFault} → Steps unread p None q n → Reads (drop n unread) (next here n) q o there r → Reads unread here p o there r
+  pub data ReadAll : (unread : List ℕ) → Position → Progress X → Option ScriptFault → Position → Progress X → Type 0 where
+    finishes : {here : Position} {p : Progress X} → ReadAll [] here p None here p
+    faults : {unread : List ℕ} {here : Position} {p q : Progress X} {n : ℕ} {fault : ScriptFault} → ReadStep unread p (Some fault) q n → ReadAll unread here p (Some fault) here q
+    steps : {unread : List ℕ} {here there : Position} {p q r : Progress X} {n : ℕ} {o : Option ScriptFault} → ReadStep unread p None q n → ReadAll (drop n unread) (next here n) q o there r → ReadAll unread here p o there r
 
   -- The innermost groups, so many, are cancelled.
   abbrev pub cancel_groups : (groups : ℕ) → X → X
@@ -113,8 +113,8 @@ module _ {X : Type 0} (S : Machine Waiting Edit X) where
   cancel_groups (suc groups) x = cancel_groups groups (S.after x (cancels (S.mark x) (S.depth x)))
 
   -- At first nothing is written, and the script has no group open.
-  abbrev pub start : X → Lent → Progress X
-  start x lent = record { subject = x; lent = lent; written = 0; groups = 0 }
+  abbrev pub start : X → Workspace → Progress X
+  start x workspace = record { current = x; workspace = workspace; written = 0; groups = 0 }
 
   -- The answer of a script: what was carried out, how many groups were cancelled at its end, and the bytes written; or its fault.
   abbrev pub script_answer : Option ScriptFault → Position → Progress X → Result FinishedScript StoppedScript
@@ -122,23 +122,23 @@ module _ {X : Type 0} (S : Machine Waiting Edit X) where
   script_answer (Some fault) there p = Err (record { fault = fault; offset = there.offset; index = there.index; written = p.written })
 
   -- A script that is not too long: commands to the end or to a fault, and then its open groups are cancelled.
-  pub record Worked (x : X) (lent : Lent) (script : List ℕ) (answer : Result FinishedScript StoppedScript) (x' : X) (lent' : Lent) : Type 0 where
+  pub record RunsCommands (x : X) (workspace : Workspace) (script : List ℕ) (answer : Result FinishedScript StoppedScript) (x' : X) (workspace' : Workspace) : Type 0 where
     pub fault : Option ScriptFault
     pub there : Position
     pub last : Progress X
-    pub reads : Reads script (record { offset = 0; index = 0 }) (start x lent) fault there last
+    pub reads : ReadAll script (record { offset = 0; index = 0 }) (start x workspace) fault there last
     pub says : answer ≡ script_answer fault there last
-    pub leaves : x' ≡ cancel_groups last.groups last.subject
-    pub lends : lent' ≡ last.lent
+    pub leaves : x' ≡ cancel_groups last.groups last.current
+    pub hands_back : workspace' ≡ last.workspace
 
   -- One that is too long is not begun: 13.
-  pub record Refused (x : X) (lent : Lent) (answer : Result FinishedScript StoppedScript) (x' : X) (lent' : Lent) : Type 0 where
+  pub record Refused (x : X) (workspace : Workspace) (answer : Result FinishedScript StoppedScript) (x' : X) (workspace' : Workspace) : Type 0 where
     pub fault : ScriptFault
     pub too_long : refusal_of fault ≡ by_script 13
     pub says : answer ≡ Err (record { fault = fault; offset = 0; index = 0; written = 0 })
     pub leaves : x' ≡ x
-    pub lends : lent' ≡ lent
+    pub hands_back : workspace' ≡ workspace
 
   -- More than 8,192 bytes are refused; any other script is worked.
-  abbrev pub Scripted : X → Lent → List ℕ → Result FinishedScript StoppedScript → X → Lent → Type 0
-  Scripted x lent script answer x' lent' = MatchBool (nat_lt script_max (length script)) (Refused x lent answer x' lent') (Worked x lent script answer x' lent')
+  abbrev pub RunsScript : X → Workspace → List ℕ → Result FinishedScript StoppedScript → X → Workspace → Type 0
+  RunsScript x workspace script answer x' workspace' = MatchBool (nat_lt script_max (length script)) (Refused x workspace answer x' workspace') (RunsCommands x workspace script answer x' workspace')

@@ -4,11 +4,11 @@ use Rattle.carriers.specs.Meaning.{Carried}
 use Rattle.exchange.specs.declared.record.RunRecord.{RunRecord}
 
 -- The records, what the carrier means, and the bytes.
-pub record Lent : Type 0 where
+pub record Workspace : Type 0 where
   pub records : List RunRecord
   pub carrier : Carried
   pub bytes : List ℕ
 
 -- The three of them.
-abbrev pub lent : List RunRecord → Carried → (bytes : List ℕ) → Lent
-lent records carrier bytes = record { records = records; carrier = carrier; bytes = bytes }
+abbrev pub workspace : List RunRecord → Carried → (bytes : List ℕ) → Workspace
+workspace records carrier bytes = record { records = records; carrier = carrier; bytes = bytes }

@@ -2,8 +2,8 @@
 ghost use Rattle.std.specs.Prelude.{◌≡◌, ◌≤◌, ◌-◌, length};
 ghost use Rattle.scripts.specs.Scripts.{cancel_groups as cancelling};
 ghost use Rattle.scripts.specs.ScriptCalls.{CountsAs};
-ghost use Rattle.scripts.specs.ScriptRuns.{RanScript, script_written};
-ghost use Rattle.scripts.specs.Workspace.{lent};
+ghost use Rattle.scripts.specs.ScriptRuns.{ScriptStep, script_written};
+ghost use Rattle.scripts.specs.Workspace.{workspace};
 ghost use Rattle.histories.specs.Machines.{book_machine};
 ghost use Rattle.store.specs.Plain.{plain};
 ghost use Rattle.histories.specs.Rules.{SameGroups};
@@ -30,7 +30,7 @@ pub fn run_script<C: Carrier>(
     carrier: &mut C,
     answers: &mut [u8],
 ) -> Result<FinishedScript, StoppedScript>
-    ensures ran { RanScript store.old (lent records.old (C.Carrier.carried carrier.old) answers.old) script.now result store.new (lent records.new (C.Carrier.carried carrier.new) answers.new) }
+    ensures ran { ScriptStep store.old (workspace records.old (C.Carrier.carried carrier.old) answers.old) script.now result store.new (workspace records.new (C.Carrier.carried carrier.new) answers.new) }
     ensures counts { CountsAs (book_machine plain) store.old script.now result store.new }
     ensures written { script_written result ≤ length answers.new }
     ensures groups { SameGroups store.old store.new }

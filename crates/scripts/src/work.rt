@@ -3,9 +3,9 @@ ghost use Rattle.std.specs.Prelude.{◌≡◌, ◌≤◌, ◌<◌, ◌+◌, ◌-
 ghost use Rattle.std.specs.Result.{result_err};
 ghost use Rattle.scripts.specs.Commands.{detecting};
 ghost use Rattle.scripts.specs.Reading.{command_of};
-ghost use Rattle.scripts.specs.Scripts.{Steps, Reads};
+ghost use Rattle.scripts.specs.Scripts.{ReadStep, ReadAll};
 ghost use Rattle.histories.specs.Machines.{book_machine};
-ghost use Rattle.scripts.specs.RunningScripts.{far, CarriedOut, Within};
+ghost use Rattle.scripts.specs.RunningScripts.{progress_of, CarriedOut, Within};
 ghost use Rattle.store.specs.Plain.{plain};
 
 use crate::answer::{DETECTION_BYTES, answer_bytes};
@@ -28,7 +28,7 @@ fn answer<C: Carrier>(
     answers: &mut [u8],
 ) -> Result<(), ScriptFault>
     requires { Within store.now answers.old tally.old }
-    ensures done { CarriedOut (detecting job) (far store.now records.old (C.Carrier.carried carrier.old) answers.old tally.old) (far store.now records.new (C.Carrier.carried carrier.new) answers.new tally.new) result }
+    ensures done { CarriedOut (detecting job) (progress_of store.now records.old (C.Carrier.carried carrier.old) answers.old tally.old) (progress_of store.now records.new (C.Carrier.carried carrier.new) answers.new tally.new) result }
     ensures within { Within store.now answers.new tally.new }
 {
     if answers.len() - tally.written < DETECTION_BYTES {
@@ -51,7 +51,7 @@ fn carry_out<C: Carrier>(
     answers: &mut [u8],
 ) -> Result<(), ScriptFault>
     requires { Within store.old answers.old tally.old }
-    ensures done { CarriedOut (command_of command.entry) (far store.old records.old (C.Carrier.carried carrier.old) answers.old tally.old) (far store.new records.new (C.Carrier.carried carrier.new) answers.new tally.new) result }
+    ensures done { CarriedOut (command_of command.entry) (progress_of store.old records.old (C.Carrier.carried carrier.old) answers.old tally.old) (progress_of store.new records.new (C.Carrier.carried carrier.new) answers.new tally.new) result }
     ensures within { Within store.new answers.new tally.new }
     ensures mark { store.new.state.mark ≡ store.old.state.mark }
     ensures depth { length store.new.state.groups + tally.old.groups ≡ length store.old.state.groups + tally.new.groups }
@@ -86,7 +86,7 @@ fn step<C: Carrier>(
 ) -> Result<(), ScriptFault>
     requires place { place.old < length script.now }
     requires within { Within store.old answers.old tally.old }
-    ensures steps { Steps (book_machine plain) (drop place.old script.now) (far store.old records.old (C.Carrier.carried carrier.old) answers.old tally.old) (result_err result) (far store.new records.new (C.Carrier.carried carrier.new) answers.new tally.new) (place.new - place.old) }
+    ensures steps { ReadStep (book_machine plain) (drop place.old script.now) (progress_of store.old records.old (C.Carrier.carried carrier.old) answers.old tally.old) (result_err result) (progress_of store.new records.new (C.Carrier.carried carrier.new) answers.new tally.new) (place.new - place.old) }
     ensures place { MatchResult result (λ _. (place.old < place.new) × (place.new ≤ length script.now)) (λ _. place.new ≡ place.old) }
     ensures within { Within store.new answers.new tally.new }
     ensures mark { store.new.state.mark ≡ store.old.state.mark }
@@ -115,7 +115,7 @@ pub fn work<C: Carrier>(
 ) -> Result<(), ScriptFault>
     requires position { position.old.index ≤ position.old.offset × position.old.offset ≤ length script.now }
     requires within { Within store.old answers.old tally.old }
-    ensures reads { Reads (book_machine plain) (drop position.old.offset script.now) position.old (far store.old records.old (C.Carrier.carried carrier.old) answers.old tally.old) (result_err result) position.new (far store.new records.new (C.Carrier.carried carrier.new) answers.new tally.new) }
+    ensures reads { ReadAll (book_machine plain) (drop position.old.offset script.now) position.old (progress_of store.old records.old (C.Carrier.carried carrier.old) answers.old tally.old) (result_err result) position.new (progress_of store.new records.new (C.Carrier.carried carrier.new) answers.new tally.new) }
     ensures within { Within store.new answers.new tally.new }
     ensures mark { store.new.state.mark ≡ store.old.state.mark }
     ensures depth { length store.new.state.groups + tally.old.groups ≡ length store.old.state.groups + tally.new.groups }

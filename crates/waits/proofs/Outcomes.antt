@@ -7,9 +7,9 @@ use Rattle.exchange.specs.Records.{blank}
 use Rattle.exchange.specs.declared.record.RunRecord.{RunRecord}
 use Rattle.book.specs.Rules.{parameters}
 use Rattle.book.specs.Histories.{Represents}
-use Rattle.book.specs.ScriptRuns.{RanScript}
-use Rattle.book.specs.Workspace.{lent}
-use Rattle.book.specs.Scripts.{Scripted}
+use Rattle.book.specs.ScriptRuns.{ScriptStep}
+use Rattle.book.specs.Workspace.{workspace}
+use Rattle.book.specs.Scripts.{RunsScript}
 use Rattle.book.specs.Machines.{history_machine}
 use Rattle.book.specs.StoppedScript.{StoppedScript}
 use Rattle.book.specs.FinishedScript.{FinishedScript}
@@ -19,7 +19,7 @@ use Rattle.book.specs.Books.{PlainBook}
 use Rattle.book.specs.Creation.{new_book}
 
 pub comes_out : {s s' : PlainBook} {was records : List RunRecord} {before carrier : Carried} {script bytes bytes' : List ℕ} {a : Result FinishedScript StoppedScript}
-    → s ≡ new_book 256 7 1024 → Represents plain s begun → was ≡ replicate 256 blank → before ≡ new_carrier 8192 → RanScript s (lent was before bytes) script a s' (lent records carrier bytes')
+    → s ≡ new_book 256 7 1024 → Represents plain s begun → was ≡ replicate 256 blank → before ≡ new_carrier 8192 → ScriptStep s (workspace was before bytes) script a s' (workspace records carrier bytes')
     → ComesOut script bytes a bytes'
 comes_out {s} {s'} {was} {records} {before} {carrier} {script} {bytes} {bytes'} {a} new shows blanks empty k =
     let r = k.represents begun shows in
@@ -27,7 +27,7 @@ comes_out {s} {s'} {was} {records} {before} {carrier} {script} {bytes} {bytes'} 
       history = r.0;
       records = records;
       carrier = carrier;
-      scripted = rw (← blanks, ← empty) (subst (λ t. Scripted (history_machine plain (parameters t)) begun (lent was before bytes) script a r.0 (lent records carrier bytes')) new r.1);
+      scripted = rw (← blanks, ← empty) (subst (λ t. RunsScript (history_machine plain (parameters t)) begun (workspace was before bytes) script a r.0 (workspace records carrier bytes')) new r.1);
     }
 
 -- what holds of a success

@@ -7,8 +7,8 @@ use Rattle.carriers.specs.Meaning.{Carried}
 use Rattle.groups.specs.History.{History, begun}
 use Rattle.book.specs.Edits.{Edit}
 use Rattle.book.specs.Rules.{Parameters}
-use Rattle.book.specs.Scripts.{Scripted}
-use Rattle.book.specs.Workspace.{lent}
+use Rattle.book.specs.Scripts.{RunsScript}
+use Rattle.book.specs.Workspace.{workspace}
 use Rattle.book.specs.Machines.{history_machine}
 use Rattle.book.specs.StoppedScript.{StoppedScript}
 use Rattle.book.specs.FinishedScript.{FinishedScript}
@@ -41,4 +41,4 @@ pub record ComesOut (script bytes : List ℕ) (answer : Result FinishedScript St
   pub history : History Edit
   pub records : List RunRecord
   pub carrier : Carried
-  pub scripted : Scripted (history_machine plain program_parameters) begun (lent (replicate program_jobs blank) (new_carrier program_queue) bytes) script answer history (lent records carrier bytes')
+  pub scripted : RunsScript (history_machine plain program_parameters) begun (workspace (replicate program_jobs blank) (new_carrier program_queue) bytes) script answer history (workspace records carrier bytes')

@@ -1,9 +1,9 @@
 // Living a whole life.
 ghost use Rattle.std.specs.Prelude.{◌≡◌, ◌≤◌, length, take, drop, is_err, nat_lt, IfOk, IfErr};
 ghost use Rattle.book.specs.Law.{LawOfPlainBooks, GrantsAreAllowed};
-ghost use Rattle.book.specs.Moments.{Lived, written_by};
-ghost use Rattle.book.specs.LifeSteps.{Performed};
-ghost use Rattle.scripts.specs.Workspace.{lent};
+ghost use Rattle.book.specs.Moments.{IsLife, written_by};
+ghost use Rattle.book.specs.LifeSteps.{IsStep};
+ghost use Rattle.scripts.specs.Workspace.{workspace};
 ghost use Rattle.histories.specs.Calls.{edits, opens, ends};
 ghost use Rattle.histories.specs.Histories.{CallStep};
 ghost use Rattle.store.specs.Plain.{plain};
@@ -78,7 +78,7 @@ impl<'a> Book<'a> {
         carrier: &mut C,
         answers: &mut [u8],
     ) -> Answer
-        ensures performed { Performed self.old (lent records.old (C.Carrier.carried carrier.old) answers.old) call.entry result self.new (lent records.new (C.Carrier.carried carrier.new) answers.new) }
+        ensures performed { IsStep self.old (workspace records.old (C.Carrier.carried carrier.old) answers.old) call.entry result self.new (workspace records.new (C.Carrier.carried carrier.new) answers.new) }
         ensures written { written_by result ≤ length answers.new }
     {
         match call {
@@ -109,7 +109,7 @@ pub fn live<C: Carrier>(
     ensures law { LawOfPlainBooks }
     ensures grants { GrantsAreAllowed }
     ensures refused { is_err result ≡ nat_lt (length moments.old) (length calls.now) }
-    ensures lived { IfOk result (λ first. Lived creation.jobs creation.mark (length trail.old) calls.now first (take (length calls.now) moments.new) (lent records.old (C.Carrier.carried carrier.old) answers.old) (lent records.new (C.Carrier.carried carrier.new) answers.new)) }
+    ensures lived { IfOk result (λ first. IsLife creation.jobs creation.mark (length trail.old) calls.now first (take (length calls.now) moments.new) (workspace records.old (C.Carrier.carried carrier.old) answers.old) (workspace records.new (C.Carrier.carried carrier.new) answers.new)) }
     ensures rest { drop (length calls.now) moments.new ≡ drop (length calls.now) moments.old }
     ensures unchanged { IfErr result (λ _. (trail.new ≡ trail.old) × (moments.new ≡ moments.old) × (records.new ≡ records.old) × (carrier.new ≡ carrier.old) × (answers.new ≡ answers.old)) }
 {

@@ -1,11 +1,11 @@
 use Rattle.std.proofs.Common.{◌≡◌, ◌+◌, ◌-◌, arith}
-use Rattle.scripts.proofs.Reading.{strange_step, stopped_step, carried_step}
+use Rattle.scripts.proofs.Reading.{no_command_step, stopped_step, carried_step}
 use Rattle.scripts.proofs.work.step.Goals as goal
 
 pub returns-in_err-command-clause-steps : goal.returns-in_err-command-clause-steps
 returns-in_err-command-clause-steps g c =
     let back : c.drop-guard.new.self.0 - c.args.place.now ≡ 0 = omega (arith, c.drop-guard.ensures) in
-    strange_step c.from_residual.result _ c.from_residual.ensures.1 c.in_err-command.ensures back
+    no_command_step c.from_residual.result _ c.from_residual.ensures.1 c.in_err-command.ensures back
 
 pub returns-in_err-carry_out-clause-steps : goal.returns-in_err-carry_out-clause-steps
 returns-in_err-carry_out-clause-steps g c =
