@@ -67,7 +67,7 @@ module _ (jobs mark memory : ℕ) (before : Workspace) where
       → Alive ks ms s records carrier answers written → IsLife jobs mark memory ks first ms before (workspace records carrier answers)
   alive_lived {s = s} {records = records} {carrier = carrier} {answers = answers} {written = written} first seen alive =
       let law = law_of_plain_books (new_parameters jobs mark memory) in
-      let told = law.1 alive.events _ _ alive.life in
+      let edit_reply = law.1 alive.events _ _ alive.life in
       record {
         events = alive.events;
         bytes = take written answers;
@@ -75,8 +75,8 @@ module _ (jobs mark memory : ℕ) (before : Workspace) where
         happened = alive.happened;
         book = s;
         lived = alive.life;
-        history = told.0;
-        follows = told.1;
+        history = edit_reply.0;
+        follows = edit_reply.1;
         created = seen ∙ law.0;
         workspace = ap (workspace records carrier) (sym (take-append-drop written answers));
       }

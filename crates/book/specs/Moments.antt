@@ -17,7 +17,7 @@ use Rattle.scripts.specs.Workspace.{Workspace}
 use Rattle.scripts.specs.ScriptRuns.{script_written}
 use Rattle.store.specs.Snapshots.{snapshot_view}
 use Rattle.histories.specs.Machines.{history_machine, View, view_of}
-use Rattle.store.specs.Replies.{edit_of, told, told_stub, told_ending_by}
+use Rattle.store.specs.Replies.{edit_of, edit_reply, open_reply_by_id, end_reply_by_id}
 use Rattle.store.specs.declared.fault.BookFault.{BookFault}
 use Rattle.store.specs.declared.fault.RefusedTicketId.{RefusedTicketId}
 use Rattle.book.specs.declared.life.call.Answer.{Answer}
@@ -49,11 +49,11 @@ written_by (Ran r) = script_written r
 
 -- A call with its answer is an event; `before` is what is lent to it, and `after` what is left.
 pub data IsEvent : (before : Workspace) → Call → Answer → BookEvent → (after : Workspace) → Type 0 where
-  opening : {l : Workspace} {r : Result TicketId BookFault} → IsEvent l Open (Opened r) (made opens (told_stub r)) l
-  ending : {l : Workspace} {e : Ending} {k : TicketId} {r : Result (Unit {0}) RefusedTicketId} → IsEvent l (End e k) (Ended r) (made (ends e k.mark k.depth) (told_ending_by r)) l
+  opening : {l : Workspace} {r : Result TicketId BookFault} → IsEvent l Open (Opened r) (made opens (open_reply_by_id r)) l
+  ending : {l : Workspace} {e : Ending} {k : TicketId} {r : Result (Unit {0}) RefusedTicketId} → IsEvent l (End e k) (Ended r) (made (ends e k.mark k.depth) (end_reply_by_id r)) l
   detecting : {l : Workspace} {job : ℕ} {r : Result Detection DetectionFault} {is : List RunRecord} {after : Carried}
       → IsEvent l (Detect job) (Detected r) (detected job l.records l.carrier r is after) (record { records = is; carrier = after; bytes = l.bytes })
-  editing : {l : Workspace} {e : _} {r : Result (Unit {0}) BookFault} → IsEvent l (Make e) (Edited r) (made (edits (edit_of e)) (told r)) l
+  editing : {l : Workspace} {e : _} {r : Result (Unit {0}) BookFault} → IsEvent l (Make e) (Edited r) (made (edits (edit_of e)) (edit_reply r)) l
   running : {l m : Workspace} {script : _} {r : Result FinishedScript StoppedScript} → IsEvent l (Run script) (Ran r) (script_event script.now l r m) m
 
 -- The answer bytes that a call has written are not lent again.

@@ -8,11 +8,11 @@ use Rattle.book.specs.declared.ticket.RefusedEnding.{RefusedEnding}
 use Rattle.book.specs.declared.ticket.Ticket.{Ticket}
 
 -- Of an opening: its ticket, or its refusal.
-abbrev pub told_opening : Result Ticket BookFault → Answer
-told_opening (Ok t) = ticket t.mark t.depth
-told_opening (Err fault) = refusal fault
+abbrev pub open_reply : Result Ticket BookFault → Answer
+open_reply (Ok t) = ticket t.mark t.depth
+open_reply (Err fault) = refusal fault
 
 -- Of an ending: done, or its refusal with the ticket that comes back.
-abbrev pub told_ending : Result (Unit {0}) RefusedEnding → Answer
-told_ending (Ok u) = done
-told_ending (Err e) = returned (number e.fault) e.ticket.mark e.ticket.depth
+abbrev pub end_reply : Result (Unit {0}) RefusedEnding → Answer
+end_reply (Ok u) = done
+end_reply (Err e) = returned (number e.fault) e.ticket.mark e.ticket.depth

@@ -3,8 +3,8 @@ ghost use Rattle.std.specs.Prelude.{◌≡◌, ◌<◌, ◌≤◌, ◌+◌, leng
 ghost use Rattle.store.specs.Edits.{requests, grants};
 ghost use Rattle.store.specs.Creation.{new_book};
 ghost use Rattle.store.specs.Plain.{plain};
-ghost use Rattle.store.specs.Replies.{told};
-ghost use Rattle.book.specs.Tickets.{told_opening, told_ending};
+ghost use Rattle.store.specs.Replies.{edit_reply};
+ghost use Rattle.book.specs.Tickets.{open_reply, end_reply};
 ghost use Rattle.groups.specs.History.{begun};
 ghost use Rattle.groups.specs.Limits.{depth_max};
 ghost use Rattle.histories.specs.Calls.{edits, opens, keeps, cancels, ends};
@@ -54,7 +54,7 @@ impl<'a> Book<'a> {
 
     /// A request: an active job waits for `need` of the targets, which are listed by rising number.
     pub fn request(&mut self, job: usize, need: u8, targets: &[u8]) -> Result<(), BookFault>
-        ensures { CallStep plain self.old (edits (requests job need targets.now)) (told result) self.new }
+        ensures { CallStep plain self.old (edits (requests job need targets.now)) (edit_reply result) self.new }
     {
         self.store.request(job, need, targets)
     }
@@ -62,14 +62,14 @@ impl<'a> Book<'a> {
     /// A grant: the waiter no longer waits for the granter, which is active, and needs one less; when it needs none, its
     /// other waits go too.
     pub fn grant(&mut self, granter: usize, waiter: usize) -> Result<(), BookFault>
-        ensures { CallStep plain self.old (edits (grants granter waiter)) (told result) self.new }
+        ensures { CallStep plain self.old (edits (grants granter waiter)) (edit_reply result) self.new }
     {
         self.store.grant(granter, waiter)
     }
 
     /// Opens a group inside the others. Its ticket must be handed back, by keeping the group or by cancelling it.
     pub fn open(&mut self) -> Result<Ticket, BookFault>
-        ensures called { CallStep plain self.old opens (told_opening result) self.new }
+        ensures called { CallStep plain self.old opens (open_reply result) self.new }
         ensures given { length self.old.state.groups < depth_max → IsOk result }
         ensures ticket { IfOk result (λ t. (t.mark ≡ self.old.state.mark) × (t.depth ≡ length self.old.state.groups + 1)) }
     {
@@ -82,7 +82,7 @@ impl<'a> Book<'a> {
     /// Ends the innermost group, and its edits stay, undone only if the group around it is cancelled. A ticket that is
     /// not the innermost group's comes back.
     pub fn keep(&mut self, ticket: Ticket) -> Result<(), RefusedEnding>
-        ensures called { CallStep plain self.old (keeps ticket.mark ticket.depth) (told_ending result) self.new }
+        ensures called { CallStep plain self.old (keeps ticket.mark ticket.depth) (end_reply result) self.new }
         ensures taken { ticket.mark ≡ self.old.state.mark → ticket.depth ≡ length self.old.state.groups → 0 < ticket.depth → IsOk result }
     {
         self.end(Ending::Keep, ticket)
@@ -91,7 +91,7 @@ impl<'a> Book<'a> {
     /// Ends the innermost group, and every row is as it was when the group was opened. A ticket that is not the innermost
     /// group's comes back.
     pub fn cancel(&mut self, ticket: Ticket) -> Result<(), RefusedEnding>
-        ensures called { CallStep plain self.old (cancels ticket.mark ticket.depth) (told_ending result) self.new }
+        ensures called { CallStep plain self.old (cancels ticket.mark ticket.depth) (end_reply result) self.new }
         ensures taken { ticket.mark ≡ self.old.state.mark → ticket.depth ≡ length self.old.state.groups → 0 < ticket.depth → IsOk result }
     {
         self.end(Ending::Cancel, ticket)
@@ -99,7 +99,7 @@ impl<'a> Book<'a> {
 
     // Ends the innermost group; a ticket that is not that group's comes back.
     fn end(&mut self, ending: Ending, ticket: Ticket) -> Result<(), RefusedEnding>
-        ensures { CallStep plain self.old (ends ending ticket.mark ticket.depth) (told_ending result) self.new }
+        ensures { CallStep plain self.old (ends ending ticket.mark ticket.depth) (end_reply result) self.new }
     {
         match self.store.end(ending, ticket.spent()) {
             Ok(()) => Ok(()),

@@ -19,7 +19,7 @@ use Rattle.rows.specs.Obeys.{rows_obey}
 use Rattle.rows.specs.StoredRows.{places_of}
 use Rattle.rows.specs.Waiting.{Waiting, idle, at, target_at}
 use Rattle.tables.specs.Tables.{lawful, IsTable}
-use Rattle.chart.specs.Check.{row_right, first_wrong_row, wrong_length, rows_told, checked}
+use Rattle.chart.specs.Check.{row_right, first_wrong_row, wrong_length, rows_of_checked, checked}
 use Rattle.chart.specs.Layout.{row_of, job_count, bytes_of_jobs}
 use Rattle.chart.specs.Writing.{bytes_of_row, bytes_of_rows, ReadsBack}
 
@@ -127,7 +127,7 @@ table_reads_back (w ∷ ws) table =
     let some : eqb n 0 ≡ false = grind (arith, nat_tests) in
     record {
       check = rw some check;
-      read = ap (λ r. rows_told r bytes) check ∙ ap (map row_of) chunks ∙ rows_read_back n 0 rows table.lawful;
+      read = ap (λ r. rows_of_checked r bytes) check ∙ ap (map row_of) chunks ∙ rows_read_back n 0 rows table.lawful;
     }
 
 -- ---- the loop

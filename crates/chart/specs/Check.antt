@@ -28,10 +28,10 @@ abbrev pub checked : List ℕ → Result ℕ Refusal
 checked bytes = cond (wrong_length (length bytes)) (Err (refused 18 None)) (counted_or_wrong (job_count bytes) (first_wrong_row (bytes_of_jobs bytes)))
 
 -- The rows of a chart; refused bytes have none.
-abbrev pub rows_told : Result ℕ Refusal → List ℕ → List Waiting
-rows_told (Ok n) bytes = map row_of (bytes_of_jobs bytes)
-rows_told (Err e) bytes = []
+abbrev pub rows_of_checked : Result ℕ Refusal → List ℕ → List Waiting
+rows_of_checked (Ok n) bytes = map row_of (bytes_of_jobs bytes)
+rows_of_checked (Err e) bytes = []
 
 -- The rows that lie in the bytes of a chart.
 abbrev pub chart_rows : List ℕ → List Waiting
-chart_rows bytes = rows_told (checked bytes) bytes
+chart_rows bytes = rows_of_checked (checked bytes) bytes

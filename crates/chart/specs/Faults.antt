@@ -23,6 +23,6 @@ abbrev pub refused : (number : ℕ) → (value : Option ℕ) → Refusal
 refused number value = record { number = number; value = value }
 
 -- The number of jobs, or what the refusal tells.
-abbrev pub told : Result ℕ ChartFault → Result ℕ Refusal
-told (Ok n) = Ok n
-told (Err fault) = Err (refused (number fault) (value fault))
+abbrev pub check_answer : Result ℕ ChartFault → Result ℕ Refusal
+check_answer (Ok n) = Ok n
+check_answer (Err fault) = Err (refused (number fault) (value fault))

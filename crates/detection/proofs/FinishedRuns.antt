@@ -31,7 +31,7 @@ module _ {rows : List Waiting} {initiator : ℕ} (tabled : IsTable rows) (job : 
       → length was ≡ length rows → room ≡ first.capacity → before ≡ first.handed → before < 2 ^ 32
       → d.verdict ≡ verdict_of (get_or records initiator blank) → d.deliveries ≡ growth before left.handed
       → Finished rows initiator was records first left d
-  run_is_finished was first d long same-room same_count fits told grown =
+  run_is_finished was first d long same-room same_count fits of_record grown =
       let all = (within_bounds tabled job going).records in
       let count : d.deliveries ≡ length going.order =
       grown ∙ ap (growth before) took.handed ∙ growth_is_the_deliveries tabled job going fits in
@@ -47,8 +47,8 @@ module _ {rows : List Waiting} {initiator : ℕ} (tabled : IsTable rows) (job : 
         waiting = ap (λ (c : Carried). c.waiting) took.waiting ∙ none_waits;
         capacity = took.capacity ∙ going.capacity ∙ same-room;
         handed = omega (arith, took.handed, going.handed);
-        told = told;
-        stuck = stuck_verdict_tells (get_or records initiator blank).free d.verdict told freed;
-        free = free_verdict_tells (get_or records initiator blank).free d.verdict told freed;
+        of_record = of_record;
+        stuck = stuck_verdict_tells (get_or records initiator blank).free d.verdict of_record freed;
+        free = free_verdict_tells (get_or records initiator blank).free d.verdict of_record freed;
         bounded = runs_are_bounded rows tabled.lawful initiator job;
       }

@@ -43,7 +43,7 @@ pub record Finished (rows : List Waiting) (initiator : ℕ) (was is : List RunRe
   pub capacity : after.capacity ≡ before.capacity
   pub handed : after.handed ≡ (before.handed + d.deliveries) % 2 ^ 32
   -- the verdict is the initiator's record's, and is stuck exactly when no list of lawful grants makes the initiator active
-  pub told : d.verdict ≡ verdict_of (slice_index_or is initiator blank)
+  pub of_record : d.verdict ≡ verdict_of (slice_index_or is initiator blank)
   pub stuck : (d.verdict ≡ Stuck) ↔ (CanBeFreed rows initiator → ⊥)
   pub free : (d.verdict ≡ Free) ↔ CanBeFreed rows initiator
   -- whatever order the messages had come in, no put would have been refused and no count would have fallen below 0

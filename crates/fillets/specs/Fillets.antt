@@ -19,10 +19,10 @@ abbrev pub waits_for_faces : ℕ → List ℕ → Call Edit
 waits_for_faces fillet faces = edits (requests fillet faces_needed faces)
 
 -- What is told of a fillet: done, or the book's refusal; nothing of the book's where the edge is too thin.
-abbrev pub told_fillet : Result (Unit {0}) FilletFault → Option Answer
-told_fillet (Ok u) = Some done
-told_fillet (Err (InBook fault)) = Some (refusal fault)
-told_fillet (Err TooThin) = None
+abbrev pub fillet_reply : Result (Unit {0}) FilletFault → Option Answer
+fillet_reply (Ok u) = Some done
+fillet_reply (Err (InBook fault)) = Some (refusal fault)
+fillet_reply (Err TooThin) = None
 
 -- What comes of a fillet in a group of its own: the book's answer to the opening, where it refuses; else, where the edge is not too thin,
 -- its answer to the request inside the group.

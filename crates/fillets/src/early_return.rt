@@ -1,7 +1,7 @@
 // A fillet that may fail while its group is open.
 ghost use Rattle.std.specs.Prelude.{◌≡◌, is_ok, if◌then◌else◌};
 ghost use Rattle.book.specs.Rules.{changed};
-ghost use Rattle.fillets.specs.Fillets.{waits_for_faces, told_fillet, fillet_comes};
+ghost use Rattle.fillets.specs.Fillets.{waits_for_faces, fillet_reply, fillet_comes};
 ghost use Rattle.book.specs.Plain.{plain};
 
 use crate::fillet::{FACES, FilletFault};
@@ -15,7 +15,7 @@ pub fn round_edge(
     faces: &[u8],
     thin: bool,
 ) -> Result<(), FilletFault>
-    ensures value { told_fillet result ≡ fillet_comes book.old thin (waits_for_faces fillet faces.now) }
+    ensures value { fillet_reply result ≡ fillet_comes book.old thin (waits_for_faces fillet faces.now) }
     ensures after { book.new ≡ (if is_ok result then changed plain book.old (waits_for_faces fillet faces.now) else book.old) }
 {
     let ticket = book.open()?;

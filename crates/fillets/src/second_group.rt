@@ -1,6 +1,6 @@
 // A fillet that is made, and a second one that is only tried.
 ghost use Rattle.std.specs.Prelude.{◌≡◌, Some};
-ghost use Rattle.fillets.specs.Fillets.{waits_for_faces, told_fillet, twice_comes, twice_leaves};
+ghost use Rattle.fillets.specs.Fillets.{waits_for_faces, fillet_reply, twice_comes, twice_leaves};
 
 use crate::fillet::{FACES, FilletFault};
 use book::Book;
@@ -13,7 +13,7 @@ pub fn round_twice(
     second: usize,
     faces: &[u8],
 ) -> Result<(), FilletFault>
-    ensures value { told_fillet result ≡ Some (twice_comes book.old (waits_for_faces first faces.now) (waits_for_faces second faces.now)) }
+    ensures value { fillet_reply result ≡ Some (twice_comes book.old (waits_for_faces first faces.now) (waits_for_faces second faces.now)) }
     ensures after { book.new ≡ twice_leaves book.old (waits_for_faces first faces.now) }
 {
     let ticket = book.open()?;

@@ -29,12 +29,12 @@ module _ {P E K : Type 0} (R : Rules P E K) where
 
   -- A book of these parameters that shows a history.
   pub record Stands (t : Parameters K) (s : BookState P K) (h : History E) : Type 0 where
-    pub told : parameters s ≡ t
+    pub same_parameters : parameters s ≡ t
     pub represents : Represents R s h
 
   module _ (t : Parameters K) {s : BookState P K} {h : History E} (w : Stands t s h) where
     pub same_summary : summary s.state ≡ summary_of R t h
-    same_summary = represents_summary R.job_of R.next_row (replicate (length s.state.rows) R.idle) s.state h w.represents ∙ ap (λ u. summary_of R u h) w.told
+    same_summary = represents_summary R.job_of R.next_row (replicate (length s.state.rows) R.idle) s.state h w.represents ∙ ap (λ u. summary_of R u h) w.same_parameters
 
     pub same_rows : s.state.rows ≡ (summary_of R t h).rows
     same_rows = ap (λ f. f.rows) same_summary
@@ -43,13 +43,13 @@ module _ {P E K : Type 0} (R : Rules P E K) where
     same_depth = ap (λ f. f.depth) same_summary
 
     pub same_mark : s.state.mark ≡ t.mark
-    same_mark = ap (λ (u : Parameters K). u.mark) w.told
+    same_mark = ap (λ (u : Parameters K). u.mark) w.same_parameters
 
     pub same_answer : (c : Call E) → says R s c ≡ answers R t h c
-    same_answer c = says_answers R s c h w.represents ∙ ap (λ u. answers R u h c) w.told
+    same_answer c = says_answers R s c h w.represents ∙ ap (λ u. answers R u h c) w.same_parameters
 
     pub stands_after : (c : Call E) → Stands t (after R s c) (history_after R t h c)
-    stands_after c = record { told = parameters_after s c ∙ w.told; represents = subst (λ u. Represents R (after R s c) (history_after R u h c)) w.told (after_represents R s c h w.represents) }
+    stands_after c = record { same_parameters = parameters_after s c ∙ w.same_parameters; represents = subst (λ u. Represents R (after R s c) (history_after R u h c)) w.same_parameters (after_represents R s c h w.represents) }
 
     pub same_ending : (e : Ending) → ◌≡◌ {A = Call E} (ends e s.state.mark (length s.state.groups)) (ends e t.mark (summary_of R t h).depth)
     same_ending e = ap (λ m. ends {E = E} e m (length s.state.groups)) same_mark ∙ ap (ends {E = E} e t.mark) same_depth
@@ -60,6 +60,6 @@ module _ {P E K : Type 0} (R : Rules P E K) where
   -- so it is at creation
   pub fresh_stands : (t : Parameters K) → Stands t (fresh_book R t) begun
   fresh_stands t = record {
-    told = ap (λ n. record { jobs = n; mark = t.mark; trail_room = t.trail_room; fixed = t.fixed }) (length-replicate t.jobs R.idle);
+    same_parameters = ap (λ n. record { jobs = n; mark = t.mark; trail_room = t.trail_room; fixed = t.fixed }) (length-replicate t.jobs R.idle);
     represents = fresh_represents R t;
   }

@@ -18,13 +18,13 @@ use Rattle.histories.proofs.SimulationLemmas.{call_step}
 full_same : {P Q : Type 0} (trail_room : ℕ) (f : Summary P) (f' : Summary Q) → f.depth ≡ f'.depth → f.recorded ≡ f'.recorded → full trail_room f ≡ full trail_room f'
 full_same trail_room f f' d u = rw (d, u)
 
-open_told : (q : Bool) (m d d' : ℕ) → d ≡ d' → ticket_id_answer (cond {A = Option TicketId} q (Some (record { mark = m; depth = d + 1 })) None) ≡ cond q (ticket m (d' + 1)) too_deep
-open_told true m d d' f = ap (λ n. ticket m (n + 1)) f
-open_told false m d d' f = refl
+open_replies : (q : Bool) (m d d' : ℕ) → d ≡ d' → ticket_id_answer (cond {A = Option TicketId} q (Some (record { mark = m; depth = d + 1 })) None) ≡ cond q (ticket m (d' + 1)) too_deep
+open_replies true m d d' f = ap (λ n. ticket m (n + 1)) f
+open_replies false m d d' f = refl
 
-end_told : (q : Bool) (k : TicketId) (r : Result (Unit {0}) TicketId) → r ≡ cond q (Ok tt) (Err k) → ending_answer_of r ≡ cond q done (not_innermost k.mark k.depth)
-end_told true k r e = ap ending_answer_of e
-end_told false k r e = ap ending_answer_of e
+end_replies : (q : Bool) (k : TicketId) (r : Result (Unit {0}) TicketId) → r ≡ cond q (Ok tt) (Err k) → ending_answer_of r ≡ cond q done (not_innermost k.mark k.depth)
+end_replies true k r e = ap ending_answer_of e
+end_replies false k r e = ap ending_answer_of e
 
 module _ {Q E K : Type 0} (R : Rules Q E K) where
   -- a call that is accepted or refused by one test
@@ -75,15 +75,15 @@ module _ {P : Type 0} (n : ℕ) {Q : Type 0} (f : P → Q) where
         let d = view_depth n f s in
         let q = ltb (summary s).depth 8 in
         by_test R (seen fixed s) (seen fixed t) (book_state fixed (opened (view n f s))) opens _ (ticket s.mark ((summary (view n f s)).depth + 1)) too_deep (ltb (summary (view n f s)).depth 8) q refl refl refl (ap (λ k. ltb k 8) d) refl
-        (ap ticket_id_answer e ∙ open_told q s.mark (summary s).depth (summary (view n f s)).depth (sym d))
+        (ap ticket_id_answer e ∙ open_replies q s.mark (summary s).depth (summary (view n f s)).depth (sym d))
         (ap (seen fixed) g ∙ seen_if fixed q (opened s) s)
 
     pub end_call_step : n ≤ length s.rows → (e : Ending) (k : TicketId) (r : Result (Unit {0}) TicketId) → r ≡ cond (fits s k) (Ok tt) (Err k) → t ≡ cond (fits s k) (ended_as e s) s → CallStep R (seen fixed s) (ends e k.mark k.depth) (ending_answer_of r) (seen fixed t)
     end_call_step l Keep k r e g =
         by_test R (seen fixed s) (seen fixed t) (seen fixed (kept s)) (keeps k.mark k.depth) _ done (not_innermost k.mark k.depth) _ (fits s k) refl refl refl (fits_seen s k) (ap (book_state fixed) (sym (view_kept n f s)))
-        (end_told (fits s k) k r e)
+        (end_replies (fits s k) k r e)
         (ap (seen fixed) g ∙ seen_if fixed (fits s k) (kept s) s)
     end_call_step l Cancel k r e g =
         by_test R (seen fixed s) (seen fixed t) (seen fixed (cancelled s)) (cancels k.mark k.depth) _ done (not_innermost k.mark k.depth) _ (fits s k) refl refl refl (fits_seen s k) (ap (book_state fixed) (sym (view_cancelled n f s l)))
-        (end_told (fits s k) k r e)
+        (end_replies (fits s k) k r e)
         (ap (seen fixed) g ∙ seen_if fixed (fits s k) (cancelled s) s)

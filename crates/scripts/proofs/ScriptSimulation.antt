@@ -96,7 +96,7 @@ module _ (t : Parameters Fixed) where
   scripted_so l l' script a w k = scripted_if (nat_lt script_max (length script)) l l' script a w k
 
 pub ran : {s s' : PlainBook} (l l' : Workspace) (script : List ℕ) (a : Result FinishedScript StoppedScript) → RunsScript (book_machine plain) s l script a s' l' → ScriptStep s l script a s' l'
-ran {s} l l' script a k = record { does = k; represents = λ h w. let r = scripted_so (parameters s) l l' script a (record { told = refl; represents = w }) k in (r.0, r.1, r.2.represents) }
+ran {s} l l' script a k = record { does = k; represents = λ h w. let r = scripted_so (parameters s) l l' script a (record { same_parameters = refl; represents = w }) k in (r.0, r.1, r.2.represents) }
 
 -- a script that is not too long
 pub worked_ran : {s s' : PlainBook} {l l' : Workspace} {script : List ℕ} {a : Result FinishedScript StoppedScript} → length script ≤ script_max → RunsCommands (book_machine plain) s l script a s' l' → ScriptStep s l script a s' l'

@@ -37,8 +37,8 @@ same_test true false h = absurd (true≢false (sym h))
 same_test false true h = absurd (true≢false (sym h))
 same_test false false h = refl
 
-computed_is_told : (a : RunLine) → computes a ≡ true → Tells a
-computed_is_told a h =
+computed_is_expected : (a : RunLine) → computes a ≡ true → Tells a
+computed_is_expected a h =
     let parts = and_parts (sound a) (found a && right a) h in
     let ground = and_parts (lawful a.rows) (ltb a.initiator (length a.rows)) parts.0 in
     let more = and_parts (found a) (right a) parts.1 in
@@ -58,4 +58,4 @@ small_calls_hold : AllByRecursion Holds (drop 9 table)
 small_calls_hold = (record { answer = refl; rows = refl }, (record { answer = refl; rows = refl }, (record { answer = refl; rows = refl }, (record { answer = refl; rows = refl }, (record { answer = refl; rows = refl }, (record { answer = refl; rows = refl }, tt))))))
 
 pub small_books_hold : SmallBooksHold
-small_books_hold = (computed_is_told _ refl, (computed_is_told _ refl, (computed_is_told _ refl, (computed_is_told _ refl, (computed_is_told _ refl, (computed_is_told _ refl, (computed_is_told _ refl, (computed_is_told _ refl, (computed_is_told _ refl, small_calls_hold)))))))))
+small_books_hold = (computed_is_expected _ refl, (computed_is_expected _ refl, (computed_is_expected _ refl, (computed_is_expected _ refl, (computed_is_expected _ refl, (computed_is_expected _ refl, (computed_is_expected _ refl, (computed_is_expected _ refl, (computed_is_expected _ refl, small_calls_hold)))))))))

@@ -24,7 +24,7 @@ use Rattle.histories.specs.Calls.{edits, opens}
 use Rattle.histories.specs.Rules.{says, book_state}
 use Rattle.histories.specs.Answers.{Answer, done}
 use Rattle.store.specs.EditAnswers.{refusal, refused_at}
-use Rattle.store.specs.Replies.{told, told_stub}
+use Rattle.store.specs.Replies.{edit_reply, open_reply_by_id}
 use Rattle.histories.specs.Histories.{CallStep}
 use Rattle.store.specs.Memory.{Lawful}
 use Rattle.histories.proofs.TicketIdAnswers.{ticket_id_answer}
@@ -39,12 +39,12 @@ use Rattle.store.specs.Books.{PlainBook, book_of}
 -- ---- groups
 
 -- an opening's answer
-opening_told : (r : Option TicketId) → told_stub (ok_or r TooDeep) ≡ ticket_id_answer r
-opening_told (Some k) = refl
-opening_told None = refl
+opening_replies : (r : Option TicketId) → open_reply_by_id (ok_or r TooDeep) ≡ ticket_id_answer r
+opening_replies (Some k) = refl
+opening_replies None = refl
 
-pub opening_call_step : (n : ℕ) (s t : State PlainRow) (r : Option TicketId) → r ≡ cond (ltb (summary s).depth 8) (Some (record { mark = s.mark; depth = (summary s).depth + 1 })) None → t ≡ cond (ltb (summary s).depth 8) (opened s) s → CallStep plain (book_of (view n waiting s)) opens (told_stub (ok_or r TooDeep)) (book_of (view n waiting t))
-opening_call_step n s t r e f = rw (opening_told r) (open_call_step n waiting plain tt s t r e f)
+pub opening_call_step : (n : ℕ) (s t : State PlainRow) (r : Option TicketId) → r ≡ cond (ltb (summary s).depth 8) (Some (record { mark = s.mark; depth = (summary s).depth + 1 })) None → t ≡ cond (ltb (summary s).depth 8) (opened s) s → CallStep plain (book_of (view n waiting s)) opens (open_reply_by_id (ok_or r TooDeep)) (book_of (view n waiting t))
+opening_call_step n s t r e f = rw (opening_replies r) (open_call_step n waiting plain tt s t r e f)
 
 -- ---- edits
 
@@ -64,7 +64,7 @@ module _ (n : ℕ) (s : State PlainRow) (l : Lawful n s) (job : ℕ) (row : Row)
   write_seen = ap book_of (view_written n waiting s job p (wide n s l) below ∙ ap (written (view n waiting s) job) says_the_row)
 
 -- a fault that is carried on
-pub carried_fault : (r : Result (Unit {0}) BookFault) (e : BookFault) → IsErrAnd r (λ y. y ≡ e) → told r ≡ refusal e
+pub carried_fault : (r : Result (Unit {0}) BookFault) (e : BookFault) → IsErrAnd r (λ y. y ≡ e) → edit_reply r ≡ refusal e
 carried_fault (Ok u) e h = absurd h
 carried_fault (Err f) e h = ap refusal h
 
@@ -93,10 +93,10 @@ abbrev stop_of : Result Waiting RowFault → Answer → Answer
 stop_of (Ok w) rest = rest
 stop_of (Err e) rest = refusal (of_row e)
 
-made_told : (q : Bool) (p : Option ℕ) (w : Waiting) (rest : Answer) → cond q (refusal WrongCounts) (refused_at p rest) ≡ stop_of (cond q (Err RowCounts) (placed p w)) rest
-made_told true p w rest = refl
-made_told false None w rest = refl
-made_told false (Some place) w rest = refl
+made_replies : (q : Bool) (p : Option ℕ) (w : Waiting) (rest : Answer) → cond q (refusal WrongCounts) (refused_at p rest) ≡ stop_of (cond q (Err RowCounts) (placed p w)) rest
+made_replies true p w rest = refl
+made_replies false None w rest = refl
+made_replies false (Some place) w rest = refl
 
 placed_is : (q : Bool) (p : Option ℕ) (w v : Waiting) → cond {A = Result Waiting RowFault} q (Err RowCounts) (placed p w) ≡ Ok v → w ≡ v
 placed_is true p w v e = absurd (cc e)
@@ -123,11 +123,11 @@ module _ (s : PlainBook) (n : ℕ) (jobs : n ≡ length s.state.rows) where
     request_says l b =
         let q : leb (length s.state.rows) job ≡ false = lt-leb _ _ (omega (arith, jobs)) in
         let r : ltb 0 (at s.state.rows job).need ≡ false = le-ltb _ _ b in
-        rw (q, r, ← jobs) (made_told (wrong_counts need (length targets)) (first_wrong n job 0 0 targets) (record { need = need; targets = targets }) _)
+        rw (q, r, ← jobs) (made_replies (wrong_counts need (length targets)) (first_wrong n job 0 0 targets) (record { need = need; targets = targets }) _)
 
-    pub no_row : job < n → (at s.state.rows job).need ≤ 0 → (e : RowFault) (r : Result (Unit {0}) BookFault) → Err e ≡ requested n job need targets → IsErrAnd r (λ y. y ≡ of_row e) → CallStep plain s (edits (requests job need targets)) (told r) s
+    pub no_row : job < n → (at s.state.rows job).need ≤ 0 → (e : RowFault) (r : Result (Unit {0}) BookFault) → Err e ≡ requested n job need targets → IsErrAnd r (λ y. y ≡ of_row e) → CallStep plain s (edits (requests job need targets)) (edit_reply r) s
     no_row l b e r f h =
-        stopped_call_step plain s (requests job need targets) (told r) (refusal (of_row e)) refl (carried_fault r (of_row e) h)
+        stopped_call_step plain s (requests job need targets) (edit_reply r) (refusal (of_row e)) refl (carried_fault r (of_row e) h)
         (sym (request_says l b ∙ ap (λ k. stop_of k (cond (full s.state.trail_room (summary s.state)) (refusal TrailFull) done)) (sym f)))
 
     pub request_call_step : job < n → (at s.state.rows job).need ≤ 0 → (w : Waiting) (a : Answer) (t : PlainBook) → Ok w ≡ requested n job need targets → a ≡ cond (full s.state.trail_room (summary s.state)) (refusal TrailFull) done → t ≡ cond (full s.state.trail_room (summary s.state)) s (book_state s.fixed (written s.state job w)) → CallStep plain s (edits (requests job need targets)) a t
@@ -157,10 +157,10 @@ module _ (s : PlainBook) (n : ℕ) (jobs : n ≡ length s.state.rows) where
         let r : ltb 0 (at s.state.rows granter).need ≡ false = le-ltb _ _ b in
         rw (both l m, r)
 
-    pub no_wait : granter < n → waiter < n → (at s.state.rows granter).need ≤ 0 → (w : Option Row) (e : BookFault) (r : Result (Unit {0}) BookFault) → seen_some w ≡ granted_by granter (at s.state.rows waiter) → Err e ≡ ok_or w NoSuchWait → IsErrAnd r (λ y. y ≡ e) → CallStep plain s (edits (grants granter waiter)) (told r) s
+    pub no_wait : granter < n → waiter < n → (at s.state.rows granter).need ≤ 0 → (w : Option Row) (e : BookFault) (r : Result (Unit {0}) BookFault) → seen_some w ≡ granted_by granter (at s.state.rows waiter) → Err e ≡ ok_or w NoSuchWait → IsErrAnd r (λ y. y ≡ e) → CallStep plain s (edits (grants granter waiter)) (edit_reply r) s
     no_wait l m b None e r f g h =
         let same : e ≡ NoSuchWait = cc g in
-        stopped_call_step plain s (grants granter waiter) (told r) (refusal NoSuchWait) refl (carried_fault r e h ∙ ap refusal same)
+        stopped_call_step plain s (grants granter waiter) (edit_reply r) (refusal NoSuchWait) refl (carried_fault r e h ∙ ap refusal same)
         (sym (grant_says l m b ∙ ap (λ q. cond (not q) (refusal NoSuchWait) (cond (full s.state.trail_room (summary s.state)) (refusal TrailFull) done)) (grant_none granter (at s.state.rows waiter) f)))
     no_wait l m b (Some w) e r f g h = absurd (cc g)
 

@@ -11,19 +11,19 @@ use Rattle.histories.specs.Answers.{Answer, done, ticket, returned}
 use Rattle.store.specs.EditAnswers.{refusal}
 
 -- Of an edit: done, or its refusal.
-abbrev pub told : Result (Unit {0}) BookFault → Answer
-told (Ok u) = done
-told (Err fault) = refusal fault
+abbrev pub edit_reply : Result (Unit {0}) BookFault → Answer
+edit_reply (Ok u) = done
+edit_reply (Err fault) = refusal fault
 
 -- Of an opening, by its ticket id: the ticket that tells the same; or its refusal.
-abbrev pub told_stub : Result TicketId BookFault → Answer
-told_stub (Ok k) = ticket k.mark k.depth
-told_stub (Err fault) = refusal fault
+abbrev pub open_reply_by_id : Result TicketId BookFault → Answer
+open_reply_by_id (Ok k) = ticket k.mark k.depth
+open_reply_by_id (Err fault) = refusal fault
 
 -- Of an ending, by its ticket id: done, or its refusal with the ticket id that comes back.
-abbrev pub told_ending_by : Result (Unit {0}) RefusedTicketId → Answer
-told_ending_by (Ok u) = done
-told_ending_by (Err e) = returned (number e.fault) e.id.mark e.id.depth
+abbrev pub end_reply_by_id : Result (Unit {0}) RefusedTicketId → Answer
+end_reply_by_id (Ok u) = done
+end_reply_by_id (Err e) = returned (number e.fault) e.id.mark e.id.depth
 
 -- The edit that a value of the program says.
 abbrev pub edit_of : Edit → EditCall

@@ -7,7 +7,7 @@ ghost use Rattle.scripts.specs.Workspace.{workspace};
 ghost use Rattle.histories.specs.Calls.{edits, opens, ends};
 ghost use Rattle.histories.specs.Histories.{CallStep};
 ghost use Rattle.store.specs.Plain.{plain};
-ghost use Rattle.store.specs.Replies.{told, told_stub, told_ending_by, edit_of};
+ghost use Rattle.store.specs.Replies.{edit_reply, open_reply_by_id, end_reply_by_id, edit_of};
 
 use crate::client::Book;
 use crate::life::call::{Answer, Call};
@@ -34,7 +34,7 @@ pub struct TooFewMoments;
 impl<'a> Book<'a> {
     // Opens a group, and takes its ticket apart.
     fn open_apart(&mut self) -> Result<TicketId, BookFault>
-        ensures { CallStep plain self.old opens (told_stub result) self.new }
+        ensures { CallStep plain self.old opens (open_reply_by_id result) self.new }
     {
         match self.open() {
             Ok(ticket) => Ok(ticket.spent()),
@@ -44,7 +44,7 @@ impl<'a> Book<'a> {
 
     // Ends the innermost group with a ticket that tells what the ticket id tells; where it is refused it is taken apart.
     fn end_by(&mut self, ending: Ending, id: TicketId) -> Result<(), RefusedTicketId>
-        ensures { CallStep plain self.old (ends ending id.mark id.depth) (told_ending_by result) self.new }
+        ensures { CallStep plain self.old (ends ending id.mark id.depth) (end_reply_by_id result) self.new }
     {
         let ticket = Ticket::of(id);
         let ended = match ending {
@@ -62,7 +62,7 @@ impl<'a> Book<'a> {
 
     // Makes an edit.
     fn edit(&mut self, edit: Edit<'_>) -> Result<(), BookFault>
-        ensures { CallStep plain self.old (edits (edit_of edit.entry)) (told result) self.new }
+        ensures { CallStep plain self.old (edits (edit_of edit.entry)) (edit_reply result) self.new }
     {
         match edit {
             Edit::Grant { granter, waiter } => self.grant(granter, waiter),

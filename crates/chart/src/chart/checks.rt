@@ -1,7 +1,7 @@
 // Checking bytes, and making a chart of them.
 ghost use Rattle.std.specs.Prelude.{◌≡◌, IfOk, length};
 ghost use Rattle.std.specs.Simd.{first_chunks};
-ghost use Rattle.chart.specs.Faults.{told};
+ghost use Rattle.chart.specs.Faults.{check_answer};
 ghost use Rattle.chart.specs.Layout.{row_bytes};
 ghost use Rattle.chart.specs.Check.{checked, chart_rows};
 ghost use Rattle.chart.specs.Views.{rows_of, rows_counted};
@@ -29,7 +29,7 @@ fn checked_rows(bytes: &[u8]) -> Result<&[RowBytes], ChartFault>
 impl<'a> Chart<'a> {
     /// The number of jobs, from 1 to 256, or the first reason why the bytes are no chart: 18, a wrong length; 19, a wrong row, with its job.
     pub fn check(bytes: &[u8]) -> Result<usize, ChartFault>
-        ensures { told result ≡ checked bytes.now }
+        ensures { check_answer result ≡ checked bytes.now }
     {
         Ok(checked_rows(bytes)?.len())
     }

@@ -12,7 +12,7 @@ ghost use Rattle.store.specs.EditAnswers.{refusal};
 ghost use Rattle.histories.specs.Histories.{Represents, CallStep};
 ghost use Rattle.store.specs.Creation.{created, new_book};
 ghost use Rattle.tables.specs.Tables.{jobs_max};
-ghost use Rattle.store.specs.Replies.{told, told_stub, told_ending_by, edit_of};
+ghost use Rattle.store.specs.Replies.{edit_reply, open_reply_by_id, end_reply_by_id, edit_of};
 ghost use Rattle.store.specs.Plain.{plain};
 ghost use Rattle.histories.specs.Rules.{book_state, says, after};
 
@@ -46,7 +46,7 @@ impl<'a> Store<'a> {
 
     /// A request: an active job waits for `need` of the targets, which are listed by rising number.
     pub fn request(&mut self, job: usize, need: u8, targets: &[u8]) -> Result<(), BookFault>
-        ensures { CallStep plain self.old (edits (requests job need targets.now)) (told result) self.new }
+        ensures { CallStep plain self.old (edits (requests job need targets.now)) (edit_reply result) self.new }
     {
         let jobs = self.jobs();
         if job >= jobs {
@@ -62,7 +62,7 @@ impl<'a> Store<'a> {
     /// A grant: the waiter no longer waits for the granter, which is active, and needs one less; when it needs none, its
     /// other waits go too.
     pub fn grant(&mut self, granter: usize, waiter: usize) -> Result<(), BookFault>
-        ensures { CallStep plain self.old (edits (grants granter waiter)) (told result) self.new }
+        ensures { CallStep plain self.old (edits (grants granter waiter)) (edit_reply result) self.new }
     {
         let jobs = self.jobs();
         if granter >= jobs || waiter >= jobs {
@@ -82,7 +82,7 @@ impl<'a> Store<'a> {
     fn write(&mut self, job: usize, row: Row) -> Result<(), BookFault>
         requires job { job < length self.old.state.rows }
         requires lawful { row_fits (length self.old.state.rows) job (waiting_of row) ≡ true }
-        ensures value { told result ≡ (if full self.old.state.trail_room (summary self.old.state) then refusal TrailFull else done) }
+        ensures value { edit_reply result ≡ (if full self.old.state.trail_room (summary self.old.state) then refusal TrailFull else done) }
         ensures after { self.new ≡ (if full self.old.state.trail_room (summary self.old.state) then self.old else book_state self.old.fixed (written self.old.state job (waiting_of row))) }
     {
         Ok(self.groups.write(job as u8, row.into())?)
@@ -90,7 +90,7 @@ impl<'a> Store<'a> {
 
     /// Opens a group inside the others, and answers its ticket id.
     pub fn open(&mut self) -> Result<TicketId, BookFault>
-        ensures { CallStep plain self.old opens (told_stub result) self.new }
+        ensures { CallStep plain self.old opens (open_reply_by_id result) self.new }
     {
         self.groups.open().ok_or(BookFault::TooDeep)
     }
@@ -98,7 +98,7 @@ impl<'a> Store<'a> {
     /// Ends the innermost group: its edits stay, undone only if the group around it is cancelled; or every row is as it was when the
     /// group was opened. A ticket id that is not the innermost group's comes back.
     pub fn end(&mut self, ending: Ending, id: TicketId) -> Result<(), RefusedTicketId>
-        ensures { CallStep plain self.old (ends ending id.mark id.depth) (told_ending_by result) self.new }
+        ensures { CallStep plain self.old (ends ending id.mark id.depth) (end_reply_by_id result) self.new }
     {
         match self.groups.end(ending, id) {
             Ok(()) => Ok(()),
@@ -123,7 +123,7 @@ impl<'a> Store<'a> {
 
     /// Makes an edit.
     pub fn edit(&mut self, edit: Edit<'_>) -> Result<(), BookFault>
-        ensures { CallStep plain self.old (edits (edit_of edit.entry)) (told result) self.new }
+        ensures { CallStep plain self.old (edits (edit_of edit.entry)) (edit_reply result) self.new }
     {
         match edit {
             Edit::Grant { granter, waiter } => self.grant(granter, waiter),

@@ -9,4 +9,4 @@ invariant_of-result c =
     record { few = chart.few; right = chart.right }
 
 pub returns : goal.returns
-returns c = (checked_rows_are_a_chart c.args.bytes.now c.checked_rows.result _ c.unwrap_or.result c.checked_rows.ensures.counted c.checked_rows.ensures.rows refl c.unwrap_or.ensures).told
+returns c = (checked_rows_are_a_chart c.args.bytes.now c.checked_rows.result _ c.unwrap_or.result c.checked_rows.ensures.counted c.checked_rows.ensures.rows refl c.unwrap_or.ensures).same_rows

@@ -4,7 +4,7 @@ use Rattle.groups.specs.TicketIds.{fits}
 use Rattle.histories.proofs.TicketIdAnswers.{ending_answer_of}
 use Rattle.histories.proofs.CallLemmas.{end_call_step}
 use Rattle.store.specs.Plain.{plain}
-use Rattle.store.specs.Replies.{told_ending_by}
+use Rattle.store.specs.Replies.{end_reply_by_id}
 use Rattle.store.proofs.LawfulMemory.{lawful_if, ended_lawful}
 use Rattle.store.proofs.RowViews.{wide}
 use Rattle.store.proofs.store.Store.end.Goals as goal
@@ -19,6 +19,6 @@ pub returns : goal.returns
 returns c =
     let b = c.self.inside in
     let e = c.end.ensures in
-    let told : told_ending_by c.match-end.result ≡ ending_answer_of c.end.result =
+    let edit_reply : end_reply_by_id c.match-end.result ≡ ending_answer_of c.end.result =
     elim c.match-end.branch [ in-Ok w ↦ rw (w.result-is, w.in-Ok.is) refl | in-Err w ↦ rw (w.result-is, w.in-Err.is) refl ] in
-    rw (← c.self.view_is, told) (end_call_step b.jobs waiting plain tt b.groups c.end.new.self (wide b.jobs b.groups c.self.invariant) c.args.ending c.args.id c.end.result e.value e.after)
+    rw (← c.self.view_is, edit_reply) (end_call_step b.jobs waiting plain tt b.groups c.end.new.self (wide b.jobs b.groups c.self.invariant) c.args.ending c.args.id c.end.result e.value e.after)
