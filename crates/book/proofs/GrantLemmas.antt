@@ -2,7 +2,7 @@
 use Rattle.std.proofs.Common.{◌≡◌, Bool, true, false, cond, not, ◌||◌, leb, ltb, length, refl, arith}
 use Rattle.std.proofs.lemmas.Bool.{or_parts, not-false, leb-false, ltb-false, lt-leb, le-ltb}
 use Rattle.rows.specs.Waiting.{at, among}
-use Rattle.tables.specs.Grants.{Grant, Allowed}
+use Rattle.tables.specs.Grants.{Grant, IsAllowed}
 use Rattle.tables.proofs.Laws.{who_waits_is_a_job}
 use Rattle.groups.specs.State.{summary, full}
 use Rattle.histories.specs.Answers.{Answer, done}
@@ -35,7 +35,7 @@ module _ (s : PlainBook) (g : Grant) where
   abbrev held : Bool
   held = full s.state.trail_room (summary s.state)
 
-  accepted : says plain s (grant_call g) ≡ done → Allowed s.state.rows g × (held ≡ false)
+  accepted : says plain s (grant_call g) ≡ done → IsAllowed s.state.rows g × (held ≡ false)
   accepted h =
       let jobs = passed (granter_outside || waiter_outside) NoSuchJob (cond blocked (refusal GranterBlocked) (cond (not waits) (refusal NoSuchWait) (cond held (refusal TrailFull) done))) h in
       let active = passed blocked GranterBlocked (cond (not waits) (refusal NoSuchWait) (cond held (refusal TrailFull) done)) jobs.1 in
@@ -46,7 +46,7 @@ module _ (s : PlainBook) (g : Grant) where
         trail_room.0,
       )
 
-  accepts : Allowed s.state.rows g × (held ≡ false) → says plain s (grant_call g) ≡ done
+  accepts : IsAllowed s.state.rows g × (held ≡ false) → says plain s (grant_call g) ≡ done
   accepts a =
       let granter : granter_outside ≡ false = lt-leb _ _ a.0.job in
       let waiter : waiter_outside ≡ false = lt-leb _ _ (who_waits_is_a_job s.state.rows g.waiter g.granter a.0.waits) in

@@ -13,7 +13,7 @@ use Rattle.tables.specs.Tables.{waiters, IsTable}
 use Rattle.carriers.specs.Messages.{receiver_on}
 use Rattle.exchange.specs.Messages.{message, notify_messages, grant_messages}
 use Rattle.exchange.specs.Records.{with_granted, with_freed_by}
-use Rattle.exchange.specs.Bounds.{Due}
+use Rattle.exchange.specs.Bounds.{IsDue}
 use Rattle.exchange.specs.Rules.{Act, and_then, let_go, notify_all, spread, freed_on, react}
 use Rattle.exchange.specs.declared.record.RunRecord.{RunRecord}
 use Rattle.detection.specs.Preconditions.{RoomFor}
@@ -29,10 +29,10 @@ module _ (rows : List Waiting) (j : ℕ) (r : RunRecord) where
   active_job_puts_both active = ap (λ (a : Act). length a.puts) (active_job_lets_go active) ∙ length-append (notify_messages rows j) (grant_messages rows j)
 
 -- A GRANT finds a job that was granted less often than any row has targets.
-pub grant_finds_few_granted : {rows : List Waiting} → IsTable rows → {kind : Kind} (w : Wait) (r : RunRecord) → kind ≡ Grant → Due rows kind w r
+pub grant_finds_few_granted : {rows : List Waiting} → IsTable rows → {kind : Kind} (w : Wait) (r : RunRecord) → kind ≡ Grant → IsDue rows kind w r
     → r.granted < targets_max
 grant_finds_few_granted {rows} tabled w r grant due =
-    omega (arith, subst (λ (k : Kind). Due rows k w r) grant due, targets_are_few rows tabled w.waiter)
+    omega (arith, subst (λ (k : Kind). IsDue rows k w r) grant due, targets_are_few rows tabled w.waiter)
 
 -- A GRANT comes to a job that is not free, and was granted one less than it needs.
 pub record Frees (rows : List Waiting) (kind : Kind) (w : Wait) (r : RunRecord) (job : ℕ) : Type 0 where

@@ -9,7 +9,7 @@ use Rattle.tables.specs.Tables.{waits}
 use Rattle.exchange.specs.Records.{blank}
 use Rattle.exchange.specs.Runs.{Exchange}
 use Rattle.exchange.specs.declared.record.RunRecord.{RunRecord}
-use Rattle.detection.specs.Detected.{stop, verdict_of, Finished}
+use Rattle.detection.specs.Detected.{stop, verdict_of, IsFinishedRun}
 use Rattle.detection.specs.declared.verdict.Detection.{Detection}
 use Rattle.detection.proofs.RunInvariant.{state}
 
@@ -19,7 +19,7 @@ no_check_stops rows initiator records carrier job enough empty wide = grind (ari
 
 pub finished_with_records_behind : (rows : List Waiting) (initiator : ℕ) (was left : List RunRecord) (before after : Carried) (d : Detection) (jobs : ℕ)
     → initiator < length rows → jobs ≡ length rows → length left ≡ jobs
-    → Finished rows initiator (take jobs was) left before after d → Finished rows initiator was (left ++ drop jobs was) before after d
+    → IsFinishedRun rows initiator (take jobs was) left before after d → IsFinishedRun rows initiator was (left ++ drop jobs was) before after d
 finished_with_records_behind rows initiator was left before after d jobs job all long f = record {
   order = f.order;
   run = subst (λ (rs : List RunRecord). Exchange rows initiator f.order (state rs [])) (sym (take-append-le (length rows) left (drop jobs was) (omega arith))) f.run;

@@ -11,7 +11,7 @@ use Rattle.exchange.specs.Runs.{Exchange}
 use Rattle.exchange.specs.declared.record.RunRecord.{RunRecord}
 use Rattle.exchange.proofs.BoundLemmas.{runs_are_bounded}
 use Rattle.exchange.proofs.EndedRuns.{ended_runs_tell}
-use Rattle.detection.specs.Detected.{verdict_of, Finished}
+use Rattle.detection.specs.Detected.{verdict_of, IsFinishedRun}
 use Rattle.detection.specs.declared.verdict.Detection.{Detection}
 use Rattle.tables.proofs.Sizes.{waits_are_few}
 use Rattle.detection.proofs.RunInvariant.{state, Going, growth, within_bounds, growth_is_the_deliveries}
@@ -30,7 +30,7 @@ module _ {rows : List Waiting} {initiator : ℕ} (tabled : IsTable rows) (job : 
   pub run_is_finished : (was : List RunRecord) (first : Carried) (d : Detection)
       → length was ≡ length rows → room ≡ first.capacity → before ≡ first.handed → before < 2 ^ 32
       → d.verdict ≡ verdict_of (get_or records initiator blank) → d.deliveries ≡ growth before left.handed
-      → Finished rows initiator was records first left d
+      → IsFinishedRun rows initiator was records first left d
   run_is_finished was first d long same-room same_count fits of_record grown =
       let all = (within_bounds tabled job going).records in
       let count : d.deliveries ≡ length going.order =

@@ -8,7 +8,7 @@ use Rattle.carriers.specs.Meaning.{Carried, Took, Sent}
 use Rattle.carriers.specs.declared.message.Message.{Message}
 use Rattle.rows.specs.Waiting.{Waiting}
 use Rattle.tables.specs.Tables.{waits, IsTable}
-use Rattle.exchange.specs.Bounds.{Awaited, Bounded}
+use Rattle.exchange.specs.Bounds.{IsExpected, IsBounded}
 use Rattle.carriers.specs.Messages.{receiver}
 use Rattle.exchange.specs.Records.{blank}
 use Rattle.exchange.specs.Rules.{spread}
@@ -78,7 +78,7 @@ module _ {rows : List Waiting} {initiator : ℕ} (tabled : IsTable rows) (job : 
 
   -- At any time.
   module _ {room before : ℕ} {records : List RunRecord} {now : Carried} (going : Going rows initiator room before records now) where
-    pub within_bounds : Bounded rows (length going.order) (state records now.waiting)
+    pub within_bounds : IsBounded rows (length going.order) (state records now.waiting)
     within_bounds = runs_are_bounded rows tabled.lawful initiator job going.order (state records now.waiting) going.run
 
     pub growth_is_the_deliveries : before < 2 ^ 32 → growth before now.handed ≡ length going.order
@@ -89,9 +89,9 @@ module _ {rows : List Waiting} {initiator : ℕ} (tabled : IsTable rows) (job : 
   -- A turn: a message is taken.
   module _ {room before : ℕ} {records : List RunRecord} {now : Carried} (going : Going rows initiator room before records now)
       {message : Message} {left : Carried} (took : Took now left (Some message)) where
-    pub taken_message_is_awaited : Awaited rows records message
-    taken_message_is_awaited =
-        (all_shuffled (Awaited rows records) now.waiting (message ∷ left.waiting)
+    pub taken_message_is_expected : IsExpected rows records message
+    taken_message_is_expected =
+        (all_shuffled (IsExpected rows records) now.waiting (message ∷ left.waiting)
         (IsPermutation-sym (message ∷ left.waiting) now.waiting took.waiting) (within_bounds going).awaited).0
 
     delivered : {last : List RunRecord} → last ≡ set records (receiver message) (reaction rows records message).becomes

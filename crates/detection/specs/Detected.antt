@@ -28,7 +28,7 @@ verdict_of r = cond r.free Free Stuck
 
 -- A whole run of the exchange was made. Which messages wait in the carrier between two deliveries is the carrier's affair: it is told by
 -- what it held before and holds after, and by its count.
-pub record Finished (rows : List Waiting) (initiator : ℕ) (was is : List RunRecord) (before after : Carried) (d : Detection) : Type 0 where
+pub record IsFinishedRun (rows : List Waiting) (initiator : ℕ) (was is : List RunRecord) (before after : Carried) (d : Detection) : Type 0 where
   -- the messages in the order in which they were delivered: a run by them ends with nothing waiting, in the records left
   pub order : List Message
   pub run : Exchange rows initiator order (record { records = take (length rows) is; waiting = [] })

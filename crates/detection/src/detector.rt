@@ -3,7 +3,7 @@ ghost use Rattle.std.specs.Prelude.{◌≡◌, ◌*◌, ◌<◌, ◌≤◌, leng
 ghost use Rattle.tables.specs.Tables.{waits as waits_of};
 ghost use Rattle.exchange.specs.Bounds.{capacity_per_wait};
 ghost use Rattle.detection.specs.Detects.{Detects};
-ghost use Rattle.detection.specs.Detected.{Finished, verdict_of};
+ghost use Rattle.detection.specs.Detected.{IsFinishedRun, verdict_of};
 
 use crate::fault::DetectionFault;
 use crate::lawful::LawfulTable;
@@ -58,7 +58,7 @@ fn run<T: TwoWayTable, C: Carrier>(
     requires records { length records.old ≡ length (T.Table.rows table.now.table.now) }
     requires waiting { length (C.Carrier.carried carrier.old).waiting ≡ 0 }
     requires room { capacity_per_wait * waits_of (T.Table.rows table.now.table.now) ≤ (C.Carrier.carried carrier.old).capacity }
-    ensures { Finished (T.Table.rows table.now.table.now) initiator records.old records.new (C.Carrier.carried carrier.old) (C.Carrier.carried carrier.new) result }
+    ensures { IsFinishedRun (T.Table.rows table.now.table.now) initiator records.old records.new (C.Carrier.carried carrier.old) (C.Carrier.carried carrier.new) result }
 {
     let before = carrier.handed_out();
     records.fill(RunRecord::blank());

@@ -4,7 +4,7 @@ ghost use Rattle.carriers.specs.Meaning.{Sent};
 ghost use Rattle.carriers.specs.Messages.{receiver};
 ghost use Rattle.exchange.specs.Rules.{let_go, close_notice, spread as spreading, react as reacting};
 ghost use Rattle.exchange.specs.Runs.{reaction};
-ghost use Rattle.exchange.specs.Bounds.{Due, Awaited};
+ghost use Rattle.exchange.specs.Bounds.{IsDue, IsExpected};
 ghost use Rattle.detection.specs.Preconditions.{RoomFor};
 
 use crate::lawful::LawfulTable;
@@ -63,7 +63,7 @@ fn react<T: TwoWayTable, C: Carrier>(
     own: &mut RunRecord,
     carrier: &mut C,
 )
-    requires due { Due (T.Table.rows table.now.table.now) message.kind message.wait own.old }
+    requires due { IsDue (T.Table.rows table.now.table.now) message.kind message.wait own.old }
     requires room { RoomFor (C.Carrier.carried carrier.old) (reacting (T.Table.rows table.now.table.now) message.kind message.wait own.old).puts }
     ensures own { own.new ≡ (reacting (T.Table.rows table.now.table.now) message.kind message.wait own.old).becomes }
     ensures sent { Sent (C.Carrier.carried carrier.old) (C.Carrier.carried carrier.new) (reacting (T.Table.rows table.now.table.now) message.kind message.wait own.old).puts }
@@ -116,7 +116,7 @@ pub fn deliver<T: TwoWayTable, C: Carrier>(
     carrier: &mut C,
 )
     requires records { length records.old ≡ length (T.Table.rows table.now.table.now) }
-    requires awaited { Awaited (T.Table.rows table.now.table.now) records.old message }
+    requires awaited { IsExpected (T.Table.rows table.now.table.now) records.old message }
     requires room { RoomFor (C.Carrier.carried carrier.old) (reaction (T.Table.rows table.now.table.now) records.old message).puts }
     ensures records { records.new ≡ slice_set records.old (receiver message) (reaction (T.Table.rows table.now.table.now) records.old message).becomes }
     ensures sent { Sent (C.Carrier.carried carrier.old) (C.Carrier.carried carrier.new) (reaction (T.Table.rows table.now.table.now) records.old message).puts }

@@ -6,7 +6,7 @@ use Rattle.carriers.specs.declared.message.Message.{Message}
 use Rattle.carriers.specs.declared.message.Wait.{Wait}
 use Rattle.rows.specs.Waiting.{Waiting}
 use Rattle.exchange.specs.Runs.{RunState, Run, stays, delivers, Exchange}
-use Rattle.exchange.specs.Bounds.{Awaited, RunsAreBounded}
+use Rattle.exchange.specs.Bounds.{IsExpected, RunsAreBounded}
 use Rattle.exchange.proofs.Entries
 use Rattle.exchange.proofs.DeliveryInvariants.{Kept, delivery_keeps, start_keeps, finds_due, length-by_weight}
 use Rattle.exchange.proofs.Reactions.{receiver_is_a_job}
@@ -27,10 +27,10 @@ module _ (rows : List Waiting) (ok : Sound rows) where
       subst (λ (n : ℕ). Kept rows initiator n s) e (run_keeps initiator 0 x.run (start_keeps rows ok initiator l x.first x.begins))
 
   -- Each message that waits is awaited.
-  all_awaited : (initiator k : ℕ) (s : RunState) → Kept rows initiator k s → AllByRecursion (Awaited rows s.records) s.waiting
-  all_awaited initiator k s v = part s.waiting v.on_waits (λ f. omega arith)
+  all_expected : (initiator k : ℕ) (s : RunState) → Kept rows initiator k s → AllByRecursion (IsExpected rows s.records) s.waiting
+  all_expected initiator k s v = part s.waiting v.on_waits (λ f. omega arith)
     where
-      part : (ms : List Message) → AllByRecursion (Entries.OnWait rows) ms → ((f : Kind → Wait → ℕ) → weigh f ms ≤ weigh f s.waiting) → AllByRecursion (Awaited rows s.records) ms
+      part : (ms : List Message) → AllByRecursion (Entries.OnWait rows) ms → ((f : Kind → Wait → ℕ) → weigh f ms ≤ weigh f s.waiting) → AllByRecursion (IsExpected rows s.records) ms
       part [] a h = tt
       part (m ∷ ms) a h = (
         record {
@@ -48,5 +48,5 @@ runs_are_bounded rows h initiator l order s x =
       records = v.records;
       deliveries = omega (arith, v.spent);
       messages = omega (arith, v.left, length-by_weight s.waiting);
-      awaited = all_awaited rows ok initiator (length order) s v;
+      awaited = all_expected rows ok initiator (length order) s v;
     }

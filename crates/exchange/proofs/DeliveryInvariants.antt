@@ -20,7 +20,7 @@ use Rattle.carriers.specs.Messages.{receiver_on, receiver}
 use Rattle.exchange.specs.Records.{blank}
 use Rattle.exchange.specs.Rules.{Act, spread}
 use Rattle.exchange.specs.Runs.{RunState, reaction, Begins, Delivers}
-use Rattle.exchange.specs.Bounds.{Due}
+use Rattle.exchange.specs.Bounds.{IsDue}
 use Rattle.exchange.specs.declared.record.RunRecord.{RunRecord}
 use Rattle.exchange.proofs.Entries
 use Rattle.exchange.proofs.Reactions
@@ -109,7 +109,7 @@ module _ (rows : List Waiting) (ok : Sound rows) where
 
   -- What a message on its way finds.
   pub finds_due : (initiator k : ℕ) (s : RunState) → Kept rows initiator k s → (c : Kind) (w : Wait) → Entries.Waits rows w → ((f : Kind → Wait → ℕ) → f c w ≤ weigh f s.waiting)
-      → Due rows c w (get_or s.records (receiver_on c w) blank)
+      → IsDue rows c w (get_or s.records (receiver_on c w) blank)
   finds_due initiator k s v Notify w o h = tt
   finds_due initiator k s v Done w o h =
       let d = v.dones w.waiter in
@@ -158,7 +158,7 @@ module _ (rows : List Waiting) (ok : Sound rows) where
     weighs_less : (f : Kind → Wait → ℕ) → f m.kind m.wait ≤ weigh f s.waiting
     weighs_less f = omega (arith, weigh_shuffled f (m ∷ d.rest) s.waiting d.taken)
 
-    due : Due rows m.kind m.wait old
+    due : IsDue rows m.kind m.wait old
     due = finds_due initiator k s v m.kind m.wait on_wait weighs_less
 
     -- how weights and sums change

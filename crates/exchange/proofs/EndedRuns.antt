@@ -2,7 +2,7 @@
 use Rattle.std.proofs.Common.{◌≡◌, ℕ, ◌<◌, ◌≤◌, Bool, true, false, cond, not, ◌||◌, ◌⊎◌, ◌↔◌, List, [], length, get_or, sym, refl, ap, ◌∙◌, inl, inr, arith}
 use Rattle.std.proofs.lemmas.Bool.{true≢false, cases_eq, cases_Bool}
 use Rattle.rows.specs.Waiting.{Waiting, among}
-use Rattle.tables.specs.ClosedSets.{count, Loosened}
+use Rattle.tables.specs.ClosedSets.{count, IsLoosened}
 use Rattle.tables.proofs.Grants.{closed_from, loosened_can_be_freed}
 use Rattle.exchange.specs.Records.{blank}
 use Rattle.exchange.specs.Runs.{RunState}
@@ -67,7 +67,7 @@ module _ (rows : List Waiting) (ok : Sound rows) (initiator k : ℕ) (s : RunSta
                 true≢false (sym (blocked_is_free j l (omega arith) (omega arith)) ∙ f))
           ])
 
-  free_is_loosened : initiator < length rows → (free initiator ≡ true) ↔ Loosened rows initiator
+  free_is_loosened : initiator < length rows → (free initiator ≡ true) ↔ IsLoosened rows initiator
   free_is_loosened il = (
     λ f S c. (v.held (λ j. true) S (record { begins = refl; goes_on = λ j u h a. refl }) (record { active = λ j l r z. c.active j l z; blocked = c.blocked }) initiator il).1 f,
     λ l. let o = l out (closed_from rows out out_holds) in let b = v.begun in grind arith,

@@ -16,7 +16,7 @@ use Rattle.carriers.specs.Messages.{receiver_on}
 use Rattle.exchange.specs.Messages.{on, message, notify_messages, grant_messages, put_on}
 use Rattle.exchange.specs.Records.{blank, with_granted, with_notified_by, freed}
 use Rattle.exchange.specs.Rules.{Act, and_then, let_go, notify_all, spread, react, freed_on}
-use Rattle.exchange.specs.Bounds.{Due}
+use Rattle.exchange.specs.Bounds.{IsDue}
 use Rattle.exchange.specs.declared.record.RunRecord.{RunRecord}
 use Rattle.exchange.proofs.Entries
 use Rattle.exchange.proofs.LawfulRows.{need, targets, Sound, waiter_is_blocked, some_waiter, each_waiter_waits, each_is_among}
@@ -111,7 +111,7 @@ module _ (rows : List Waiting) (ok : Sound rows) where
       let g = weigh_spread (Entries.notice_of x) j r in
       elim d [ inl p ↦ grind (arith, nat_tests) | inr z ↦ grind (arith, nat_tests) ]
 
-  pub dones_balance : (x : ℕ) (k : Kind) (w : Wait) (r : RunRecord) → Entries.Fair rows (receiver_on k w) r → Entries.Waits rows w → Due rows k w r
+  pub dones_balance : (x : ℕ) (k : Kind) (w : Wait) (r : RunRecord) → Entries.Fair rows (receiver_on k w) r → Entries.Waits rows w → IsDue rows k w r
       → Entries.dones_of x (receiver_on k w) (react rows k w r).becomes + (Entries.notice_of x k w + Entries.owes_done rows x (receiver_on k w) r)
       ≡ Entries.dones_of x (receiver_on k w) r + (weigh (Entries.notice_of x) (react rows k w r).puts + Entries.owes_done rows x (receiver_on k w) (react rows k w r).becomes)
   dones_balance x Notify w r l o d =
@@ -151,7 +151,7 @@ module _ (rows : List Waiting) (ok : Sound rows) where
       → Entries.acks_of x j a.becomes + Entries.owes_ack x j r ≡ Entries.acks_of x j r + (weigh (Entries.grant_of x) a.puts + Entries.owes_ack x j a.becomes)) j r
       (λ z w. let b = u.unfree z in grind (arith, nat_tests)) (λ z w. grind (arith, nat_tests)) g
 
-  pub acks_balance : (x : ℕ) (k : Kind) (w : Wait) (r : RunRecord) → Entries.Fair rows (receiver_on k w) r → Entries.Waits rows w → Due rows k w r
+  pub acks_balance : (x : ℕ) (k : Kind) (w : Wait) (r : RunRecord) → Entries.Fair rows (receiver_on k w) r → Entries.Waits rows w → IsDue rows k w r
       → Entries.acks_of x (receiver_on k w) (react rows k w r).becomes + (Entries.grant_of x k w + Entries.owes_ack x (receiver_on k w) r)
       ≡ Entries.acks_of x (receiver_on k w) r + (weigh (Entries.grant_of x) (react rows k w r).puts + Entries.owes_ack x (receiver_on k w) (react rows k w r).becomes)
   acks_balance x Notify w r l o d =
@@ -290,7 +290,7 @@ module _ (rows : List Waiting) (ok : Sound rows) where
       → weigh Entries.answer a.puts + Entries.owed rows w.target a.becomes ≡ 1 + Entries.owed rows w.target r) w.target (with_notified_by w r)
       (λ z p y. let b = u.unfree z in grind (arith, nat_tests)) (λ z p y. grind (arith, nat_tests)) (spread_is_due w r a) (weigh_spread Entries.answer w.target (with_notified_by w r))
 
-  pub owed_balance : (k : Kind) (w : Wait) (r : RunRecord) → Entries.Fair rows (receiver_on k w) r → Entries.Waits rows w → Due rows k w r
+  pub owed_balance : (k : Kind) (w : Wait) (r : RunRecord) → Entries.Fair rows (receiver_on k w) r → Entries.Waits rows w → IsDue rows k w r
       → weigh Entries.answer (react rows k w r).puts + (Entries.owed rows (receiver_on k w) (react rows k w r).becomes + Entries.answer k w)
       ≡ Entries.first k w + (Entries.answer k w + Entries.owed rows (receiver_on k w) r)
   owed_balance Notify w r l o d =

@@ -22,30 +22,30 @@ capacity_per_wait = 2
 
 -- A DONE finds one due, and so does an ACK; a GRANT finds a job that was granted less often than it has targets. So no count
 -- falls below 0, and none rises above what a row allows.
-abbrev pub Due : List Waiting → Kind → Wait → RunRecord → Type 0
-Due rows Notify w r = Unit {0}
-Due rows Done w r = 0 < r.dones_due
-Due rows Grant w r = r.granted < length (at rows w.waiter).targets
-Due rows Ack w r = 0 < r.acks_due
+abbrev pub IsDue : List Waiting → Kind → Wait → RunRecord → Type 0
+IsDue rows Notify w r = Unit {0}
+IsDue rows Done w r = 0 < r.dones_due
+IsDue rows Grant w r = r.granted < length (at rows w.waiter).targets
+IsDue rows Ack w r = 0 < r.acks_due
 
 -- A message goes to a job, and finds there what it answers.
-pub record Awaited (rows : List Waiting) (records : List RunRecord) (m : Message) : Type 0 where
+pub record IsExpected (rows : List Waiting) (records : List RunRecord) (m : Message) : Type 0 where
   pub job : receiver m < length rows
-  pub due : Due rows m.kind m.wait (slice_index_or records (receiver m) blank)
+  pub due : IsDue rows m.kind m.wait (slice_index_or records (receiver m) blank)
 
 -- What holds wherever a run has come to, after k deliveries.
-pub record Bounded (rows : List Waiting) (k : ℕ) (s : RunState) : Type 0 where
+pub record IsBounded (rows : List Waiting) (k : ℕ) (s : RunState) : Type 0 where
   -- each job has a record
   pub records : length s.records ≡ length rows
   -- there are at most four deliveries a wait, so every run ends
   pub deliveries : k ≤ deliveries_per_wait * waits rows
   -- there are never more than two messages a wait
   pub messages : length s.waiting ≤ capacity_per_wait * waits rows
-  pub awaited : AllByRecursion (Awaited rows s.records) s.waiting
+  pub awaited : AllByRecursion (IsExpected rows s.records) s.waiting
 
 -- It holds at every moment of every run from an initiator, in whatever order the messages come.
 abbrev pub RunsBounded : List Waiting → ℕ → Type 0
-RunsBounded rows initiator = (order : List Message) (s : RunState) → Exchange rows initiator order s → Bounded rows (length order) s
+RunsBounded rows initiator = (order : List Message) (s : RunState) → Exchange rows initiator order s → IsBounded rows (length order) s
 
 -- So it is over every lawful table, from each of its jobs.
 abbrev pub RunsAreBounded : Type 0

@@ -6,15 +6,15 @@ use Rattle.std.proofs.lemmas.Bool.{or_cases, cases_eq, cases_lt, cases_Bool, tru
 use Rattle.std.proofs.lemmas.Bool.Decides.{nat_tests}
 use Rattle.containers.specs.Held.{Held, vacant}
 use Rattle.rows.specs.Waiting.{Waiting, at, among}
-use Rattle.tables.specs.ClosedSets.{count, Closed, Loosened}
+use Rattle.tables.specs.ClosedSets.{count, IsClosed, IsLoosened}
 use Rattle.rows.specs.Law.{rising}
 use Rattle.rows.proofs.Laws.{fits_shaped}
 use Rattle.tables.proofs.Grants.{closed_at}
 use Rattle.tables.proofs.Laws.{lawful_at, who_waits_is_a_job}
 use Rattle.tables.proofs.WaiterLemmas.{among_rising_is_not_below}
-use Rattle.reduction.specs.Marks.{loose, held, is_loose}
+use Rattle.reduction.specs.Marks.{loose, stuck, is_loose}
 use Rattle.tables.specs.Tables.{jobs_max, lawful}
-use Rattle.reduction.specs.Work.{Work, loose_count, looked_at, steps_left, NoneTwice, SoundMarks, Lacks, Settled, AtHand, CanBeLoosened, with_loose, one_less, lowered, CanBeLowered, Decided}
+use Rattle.reduction.specs.Work.{Work, loose_count, is_processed, steps_left, NoneTwice, SoundMarks, Lacks, IsSaturated, IsCurrent, CanBeLoosened, with_loose, one_less, lowered, CanBeLowered, IsDecided}
 
 -- ---- counts
 
@@ -83,10 +83,10 @@ none_twice_pushed x (y ∷ ys) n a =
 -- ---- marks
 
 marked_set : (marks : List ℕ) (i v : ℕ) → i < length marks → (v ≡ i → ⊥) → is_loose (set marks i loose) v ≡ is_loose marks v
-marked_set marks i v l d = ap (λ m. eqb m loose) (get_or-set_other marks i v loose held d)
+marked_set marks i v l d = ap (λ m. eqb m loose) (get_or-set_other marks i v loose stuck d)
 
 marked_here : (marks : List ℕ) (i : ℕ) → i < length marks → is_loose (set marks i loose) i ≡ true
-marked_here marks i l = ap (λ m. eqb m loose) (get_or-set_same marks i loose held l)
+marked_here marks i l = ap (λ m. eqb m loose) (get_or-set_same marks i loose stuck l)
 
 -- what is marked stays so
 pub marked_still : (marks : List ℕ) (i v : ℕ) → i < length marks → is_loose marks v ≡ true → is_loose (set marks i loose) v ≡ true
@@ -105,21 +105,21 @@ unmarked_before marks i v l m = (
 )
 
 -- a job that is marked and queued is not done, so that nothing more is done
-pub done_same : (marks queue : List ℕ) (i v : ℕ) → i < length marks → is_loose marks i ≡ false → looked_at (set marks i loose) (queue ++ i ∷ []) v ≡ looked_at marks queue v
+pub done_same : (marks queue : List ℕ) (i v : ℕ) → i < length marks → is_loose marks i ≡ false → is_processed (set marks i loose) (queue ++ i ∷ []) v ≡ is_processed marks queue v
 done_same marks queue i v l m = elim (cases_eq v i) [
-  | inl e ↦ subst (λ k. looked_at (set marks i loose) (queue ++ i ∷ []) k ≡ looked_at marks queue k) (sym e) here
+  | inl e ↦ subst (λ k. is_processed (set marks i loose) (queue ++ i ∷ []) k ≡ is_processed marks queue k) (sym e) here
   | inr d ↦ there d
 ]
   where
-    here : looked_at (set marks i loose) (queue ++ i ∷ []) i ≡ looked_at marks queue i
+    here : is_processed (set marks i loose) (queue ++ i ∷ []) i ≡ is_processed marks queue i
     here = let a = among_push i i queue in let q = eq-eqb i i refl in rw (a, m) (let k = q in grind (arith, nat_tests))
 
-    there : (v ≡ i → ⊥) → looked_at (set marks i loose) (queue ++ i ∷ []) v ≡ looked_at marks queue v
+    there : (v ≡ i → ⊥) → is_processed (set marks i loose) (queue ++ i ∷ []) v ≡ is_processed marks queue v
     there d = let a = among_push v i queue in let q = ne_eqb i v (λ e. d (sym e)) in let b = marked_set marks i v l d in rw (b, a) (let k = q in grind (arith, nat_tests))
 
 -- one mark more, where there was another
 one_more : (w : Work) (i : ℕ) → SoundMarks w → CanBeLoosened w i → loose_count (set w.marks i loose) ≡ loose_count w.marks + 1
-one_more w i b m = omega (arith, rw m.unmarked at (sum_by-set {X = ℕ} (λ n. cond (eqb n loose) 1 0) w.marks i loose held (omega (arith, b.len, m.is_job))))
+one_more w i b m = omega (arith, rw m.unmarked at (sum_by-set {X = ℕ} (λ n. cond (eqb n loose) 1 0) w.marks i loose stuck (omega (arith, b.len, m.is_job))))
 
 not_all : (w : Work) (i : ℕ) → SoundMarks w → CanBeLoosened w i → loose_count w.marks < length w.marks
 not_all w i b m = omega (arith, one_more w i b m, count_by-le-length (λ n. eqb n loose) (set w.marks i loose), length-set w.marks i loose)
@@ -141,11 +141,11 @@ mark_base w i b m =
       lawful = b.lawful;
       len = omega (arith, length-set w.marks i loose, b.len);
       bits = λ v h. elim (cases_eq v i) [
-        | inl e ↦ inl (subst (λ n. get_or (set w.marks i loose) n held ≡ loose) (sym e) (get_or-set_same w.marks i loose held k))
-        | inr d ↦ subst (λ n. (n ≡ loose) ⊎ (n ≡ held)) (sym (get_or-set_other w.marks i v loose held d)) (b.bits v h)
+        | inl e ↦ inl (subst (λ n. get_or (set w.marks i loose) n stuck ≡ loose) (sym e) (get_or-set_same w.marks i loose stuck k))
+        | inr d ↦ subst (λ n. (n ≡ loose) ⊎ (n ≡ stuck)) (sym (get_or-set_other w.marks i v loose stuck d)) (b.bits v h)
       ];
       sound = λ v h. elim (cases_eq v i) [
-        | inl e ↦ subst (Loosened w.rows) (sym e) m.loosened
+        | inl e ↦ subst (IsLoosened w.rows) (sym e) m.loosened
         | inr d ↦ b.sound v (sym (marked_set w.marks i v k d) ∙ h)
       ];
       queued = λ v a. elim (cases_eq v i) [
@@ -183,42 +183,42 @@ counters_base w lacking e b = record {
 pub record Started (w : Work) (i : ℕ) : Type 0 where
   pub base : SoundMarks w
   pub later : (v : ℕ) → i ≤ v → is_loose w.marks v ≡ false
-  pub none : (v : ℕ) → looked_at w.marks w.queue v ≡ false
+  pub none : (v : ℕ) → is_processed w.marks w.queue v ≡ false
   pub blocked : (v : ℕ) → v < i → is_loose w.marks v ≡ false → (0 < get_or w.lacking v 0) × (get_or w.lacking v 0 ≡ (at w.rows v).need)
 
 -- no mark at all
-held_nowhere : (n v : ℕ) → is_loose (replicate n held) v ≡ false
-held_nowhere n v = elim (cases_lt v n) [
-  | inl l ↦ ap (λ m. eqb m loose) (get_or-replicate n v held held l)
-  | inr l ↦ ap (λ m. eqb m loose) (get_or_past (replicate n held) v held (omega (arith, length-replicate n held)))
+stuck_everywhere : (n v : ℕ) → is_loose (replicate n stuck) v ≡ false
+stuck_everywhere n v = elim (cases_lt v n) [
+  | inl l ↦ ap (λ m. eqb m loose) (get_or-replicate n v stuck stuck l)
+  | inr l ↦ ap (λ m. eqb m loose) (get_or_past (replicate n stuck) v stuck (omega (arith, length-replicate n stuck)))
 ]
 
-pub start_base : (rows : List Waiting) → lawful rows ≡ true → length rows ≤ jobs_max → SoundMarks (record { rows = rows; marks = replicate jobs_max held; lacking = replicate jobs_max 0; queue = [] })
+pub start_base : (rows : List Waiting) → lawful rows ≡ true → length rows ≤ jobs_max → SoundMarks (record { rows = rows; marks = replicate jobs_max stuck; lacking = replicate jobs_max 0; queue = [] })
 start_base rows law l = record {
-  size = length-replicate jobs_max held;
+  size = length-replicate jobs_max stuck;
   counters = length-replicate {A = ℕ} jobs_max 0;
   lawful = law;
-  len = omega (arith, length-replicate jobs_max held);
-  bits = λ v h. inr (get_or-replicate jobs_max v held held (omega arith));
-  sound = λ v m. absurd (true≢false (sym m ∙ held_nowhere jobs_max v));
+  len = omega (arith, length-replicate jobs_max stuck);
+  bits = λ v h. inr (get_or-replicate jobs_max v stuck stuck (omega arith));
+  sound = λ v m. absurd (true≢false (sym m ∙ stuck_everywhere jobs_max v));
   queued = λ v a. absurd (true≢false (sym a));
   once = tt;
   few = omega arith;
 }
 
-pub start_zero : (rows : List Waiting) → lawful rows ≡ true → length rows ≤ jobs_max → Started (record { rows = rows; marks = replicate jobs_max held; lacking = replicate jobs_max 0; queue = [] }) 0
+pub start_zero : (rows : List Waiting) → lawful rows ≡ true → length rows ≤ jobs_max → Started (record { rows = rows; marks = replicate jobs_max stuck; lacking = replicate jobs_max 0; queue = [] }) 0
 start_zero rows law l = record {
   base = start_base rows law l;
-  later = λ v h. held_nowhere jobs_max v;
-  none = λ v. rw (held_nowhere jobs_max v);
+  later = λ v h. stuck_everywhere jobs_max v;
+  none = λ v. rw (stuck_everywhere jobs_max v);
   blocked = λ v h m. absurd (omega arith);
 }
 
 -- an empty queue, and no mark
-pub start_made : (rows : List Waiting) (queue : Held ℕ) → queue ≡ vacant jobs_max → lawful rows ≡ true → length rows ≤ jobs_max → SoundMarks (record { rows = rows; marks = replicate jobs_max held; lacking = replicate jobs_max 0; queue = queue.items }) × (queue.capacity ≡ jobs_max)
+pub start_made : (rows : List Waiting) (queue : Held ℕ) → queue ≡ vacant jobs_max → lawful rows ≡ true → length rows ≤ jobs_max → SoundMarks (record { rows = rows; marks = replicate jobs_max stuck; lacking = replicate jobs_max 0; queue = queue.items }) × (queue.capacity ≡ jobs_max)
 start_made rows queue e law l = rw e (start_base rows law l, refl)
 
-pub start_first : (rows : List Waiting) (queue : Held ℕ) → queue ≡ vacant jobs_max → lawful rows ≡ true → length rows ≤ jobs_max → Started (record { rows = rows; marks = replicate jobs_max held; lacking = replicate jobs_max 0; queue = queue.items }) 0
+pub start_first : (rows : List Waiting) (queue : Held ℕ) → queue ≡ vacant jobs_max → lawful rows ≡ true → length rows ≤ jobs_max → Started (record { rows = rows; marks = replicate jobs_max stuck; lacking = replicate jobs_max 0; queue = queue.items }) 0
 start_first rows queue e law l = rw e (start_zero rows law l)
 
 pub start_skip : (w : Work) (i need : ℕ) → i < length w.rows → Started w i → need ≡ (at w.rows i).need → (need ≡ 0 → ⊥) → Started (record w { lacking = set w.lacking i need }) (i + 1)
@@ -252,9 +252,9 @@ start_mark w i can s =
       blocked = λ v h u. let b = unmarked_before w.marks i v k u in let d = b.1 in s.blocked v (elim (cases_eq v i) [ inl e ↦ absurd (d e) | inr n ↦ omega arith ]) b.0;
     }
 
-pub start_settled : (w : Work) (i : ℕ) → length w.rows ≤ i → Started w i → Settled w
-start_settled w i l s v b m =
-    let none = count_none (looked_at w.marks w.queue) (at w.rows v).targets s.none in
+pub start_saturated : (w : Work) (i : ℕ) → length w.rows ≤ i → Started w i → IsSaturated w
+start_saturated w i l s v b m =
+    let none = count_none (is_processed w.marks w.queue) (at w.rows v).targets s.none in
     let p = s.blocked v (omega arith) m in
     (p.0, omega (arith, none, p.1))
 
@@ -270,15 +270,15 @@ pub record Lowering (w₀ : Work) (job : ℕ) (left : ℕ → Bool) (w : Work) :
   pub marked : is_loose w.marks job ≡ true
   pub apart : among job w.queue ≡ false
   pub wait : (v : ℕ) → left v ≡ true → among job (at w.rows v).targets ≡ true
-  pub lacks : (v : ℕ) → v < length w.rows → is_loose w.marks v ≡ false → Lacks w (looked_at w.marks (queue_of left job w.queue v)) v
+  pub lacks : (v : ℕ) → v < length w.rows → is_loose w.marks v ≡ false → Lacks w (is_processed w.marks (queue_of left job w.queue v)) v
   pub steps : steps_left w ≡ steps_left w₀
 
 -- the job at hand alone is looked at besides
-at_hand_alone : (w : Work) (job : ℕ) (u : ℕ) → (job ≡ u → ⊥) → looked_at w.marks (job ∷ w.queue) u ≡ looked_at w.marks w.queue u
+at_hand_alone : (w : Work) (job : ℕ) (u : ℕ) → (job ≡ u → ⊥) → is_processed w.marks (job ∷ w.queue) u ≡ is_processed w.marks w.queue u
 at_hand_alone w job u d = let q = ne_eqb job u d in rw q refl
 
 -- At the start all waiters are left.
-pub lower_start : (w : Work) (job : ℕ) → SoundMarks w → AtHand w job → Lowering w job (λ v. among job (at w.rows v).targets) w
+pub lower_start : (w : Work) (job : ℕ) → SoundMarks w → IsCurrent w job → Lowering w job (λ v. among job (at w.rows v).targets) w
 lower_start w job b h = record {
   rows = refl;
   base = b;
@@ -286,11 +286,11 @@ lower_start w job b h = record {
   apart = h.apart;
   wait = λ v a. a;
   lacks = λ v l m. elim (cases_Bool (among job (at w.rows v).targets)) [
-    | inl a ↦ rw a (h.settled v l m)
+    | inl a ↦ rw a (h.saturated v l m)
     | inr a ↦
-        let same = count_same (looked_at w.marks w.queue) (looked_at w.marks (job ∷ w.queue)) (at w.rows v).targets
+        let same = count_same (is_processed w.marks w.queue) (is_processed w.marks (job ∷ w.queue)) (at w.rows v).targets
         (λ u t. sym (at_hand_alone w job u (λ (e : job ≡ u). true≢false (sym t ∙ subst (λ k. among k (at w.rows v).targets ≡ false) e a)))) in
-        let p = h.settled v l m in
+        let p = h.saturated v l m in
         rw a (p.0, omega (arith, p.1, same))
   ];
   steps = refl;
@@ -304,11 +304,11 @@ lower_same w₀ job left rest w e p = record {
   marked = p.marked;
   apart = p.apart;
   wait = λ v a. p.wait v (e v ∙ a);
-  lacks = λ v l m. subst (λ (b : Bool). Lacks w (looked_at w.marks (cond b (job ∷ w.queue) w.queue)) v) (e v) (p.lacks v l m);
+  lacks = λ v l m. subst (λ (b : Bool). Lacks w (is_processed w.marks (cond b (job ∷ w.queue) w.queue)) v) (e v) (p.lacks v l m);
   steps = p.steps;
 }
 
-pub lower_end : (w₀ : Work) (job : ℕ) (left : ℕ → Bool) (w : Work) → ((v : ℕ) → left v ≡ false) → Lowering w₀ job left w → Settled w
+pub lower_end : (w₀ : Work) (job : ℕ) (left : ℕ → Bool) (w : Work) → ((v : ℕ) → left v ≡ false) → Lowering w₀ job left w → IsSaturated w
 lower_end w₀ job left w e p v l m = rw (e v) at (p.lacks v l m)
 
 -- One of those that are left is looked at, and then is not left.
@@ -332,9 +332,9 @@ module _ (w₀ : Work) (job x : ℕ) (left rest : ℕ → Bool) (w : Work) (p : 
   others_are_as_before v d = ap (λ (b : Bool). cond b (job ∷ w.queue) w.queue) (others_stay v d)
 
   -- One target more is done, of those of x.
-  one_target_more : count (looked_at w.marks w.queue) (at w.rows x).targets ≡ count (looked_at w.marks (job ∷ w.queue)) (at w.rows x).targets + 1
+  one_target_more : count (is_processed w.marks w.queue) (at w.rows x).targets ≡ count (is_processed w.marks (job ∷ w.queue)) (at w.rows x).targets + 1
   one_target_more =
-      count_one_more (looked_at w.marks (job ∷ w.queue)) (looked_at w.marks w.queue) 0 (at w.rows x).targets job
+      count_one_more (is_processed w.marks (job ∷ w.queue)) (is_processed w.marks w.queue) 0 (at w.rows x).targets job
       (and_parts _ _ (fits_shaped (length w.rows) x (at w.rows x) (lawful_at w.rows p.base.lawful x x_is_a_job))).1
       (p.wait x x_is_left)
       (let q = eq-eqb job job refl in rw (p.marked, q) refl)
@@ -342,7 +342,7 @@ module _ (w₀ : Work) (job x : ℕ) (left rest : ℕ → Bool) (w : Work) (p : 
       (at_hand_alone w job)
 
   module _ (m : is_loose w.marks x ≡ false) where
-    x_lacks : (0 < get_or w.lacking x 0) × (get_or w.lacking x 0 + count (looked_at w.marks (job ∷ w.queue)) (at w.rows x).targets ≡ (at w.rows x).need)
+    x_lacks : (0 < get_or w.lacking x 0) × (get_or w.lacking x 0 + count (is_processed w.marks (job ∷ w.queue)) (at w.rows x).targets ≡ (at w.rows x).need)
     x_lacks = rw x_is_left at (p.lacks x x_is_a_job m)
 
     x_can_be_loosened : get_or w.lacking x 0 ≡ 1 → CanBeLoosened w x
@@ -355,7 +355,7 @@ module _ (w₀ : Work) (job x : ℕ) (left rest : ℕ → Bool) (w : Work) (p : 
             arith,
             x_lacks.1,
             one_target_more,
-            count_less (looked_at w.marks w.queue) S (at w.rows x).targets (λ u _ d. p.base.sound u (and_parts (is_loose w.marks u) _ d).0 S c),
+            count_less (is_processed w.marks w.queue) S (at w.rows x).targets (λ u _ d. p.base.sound u (and_parts (is_loose w.marks u) _ d).0 S c),
           ));
     }
 
@@ -364,7 +364,7 @@ module _ (w₀ : Work) (job x : ℕ) (left rest : ℕ → Bool) (w : Work) (p : 
 
   -- The rest, where marks and queue are as they were.
   lower_on : (lacking : List ℕ) → length lacking ≡ length w.lacking
-      → ((v : ℕ) → v < length w.rows → is_loose w.marks v ≡ false → Lacks (record w { lacking = lacking }) (looked_at w.marks (queue_of rest job w.queue v)) v)
+      → ((v : ℕ) → v < length w.rows → is_loose w.marks v ≡ false → Lacks (record w { lacking = lacking }) (is_processed w.marks (queue_of rest job w.queue v)) v)
       → Lowering w₀ job rest (record w { lacking = lacking })
   lower_on lacking long all = record {
     rows = p.rows;
@@ -381,7 +381,7 @@ module _ (w₀ : Work) (job x : ℕ) (left rest : ℕ → Bool) (w : Work) (p : 
       lower_on w.lacking refl
       (λ v l u. elim (cases_eq v x) [
         | inl q ↦ absurd (true≢false (sym m ∙ subst (λ k. is_loose w.marks k ≡ false) q u))
-        | inr d ↦ subst (λ q. Lacks w (looked_at w.marks q) v) (others_are_as_before v d) (p.lacks v l u)
+        | inr d ↦ subst (λ q. Lacks w (is_processed w.marks q) v) (others_are_as_before v d) (p.lacks v l u)
       ])
 
   module _ (m : is_loose w.marks x ≡ false) where
@@ -396,9 +396,9 @@ module _ (w₀ : Work) (job x : ℕ) (left rest : ℕ → Bool) (w : Work) (p : 
     unfolding less
     less_there v d = get_or-set_other w.lacking x v (get_or w.lacking x 0 - 1) 0 d
 
-    others_lack : (v : ℕ) → (v ≡ x → ⊥) → v < length w.rows → is_loose w.marks v ≡ false → Lacks (record w { lacking = less }) (looked_at w.marks (queue_of rest job w.queue v)) v
+    others_lack : (v : ℕ) → (v ≡ x → ⊥) → v < length w.rows → is_loose w.marks v ≡ false → Lacks (record w { lacking = less }) (is_processed w.marks (queue_of rest job w.queue v)) v
     others_lack v d l u =
-        let q = subst (λ q. Lacks w (looked_at w.marks q) v) (others_are_as_before v d) (p.lacks v l u) in
+        let q = subst (λ q. Lacks w (is_processed w.marks q) v) (others_are_as_before v d) (p.lacks v l u) in
         (omega (arith, q.0, less_there v d), omega (arith, q.1, less_there v d))
 
     lower_one : (get_or w.lacking x 0 ≡ 1 → ⊥) → Lowering w₀ job rest (one_less w x)
@@ -407,7 +407,7 @@ module _ (w₀ : Work) (job x : ℕ) (left rest : ℕ → Bool) (w : Work) (p : 
         lower_on less (length-set w.lacking x (get_or w.lacking x 0 - 1))
         (λ v l u. elim (cases_eq v x) [
           | inl q ↦
-              subst (λ k. Lacks (record w { lacking = less }) (looked_at w.marks (queue_of rest job w.queue k)) k) (sym q)
+              subst (λ k. Lacks (record w { lacking = less }) (is_processed w.marks (queue_of rest job w.queue k)) k) (sym q)
               (rw x_is_not_in_rest (omega (arith, (x_lacks m).0, less_here, more), omega (arith, (x_lacks m).0, (x_lacks m).1, less_here, one_target_more)))
           | inr d ↦ others_lack v d l u
         ])
@@ -428,14 +428,14 @@ module _ (w₀ : Work) (job x : ℕ) (left rest : ℕ → Bool) (w : Work) (p : 
           lacks = λ v l u.
               let was = unmarked_before w.marks x v k u in
               let q = others_lack v was.1 l was.0 in
-              (q.0, omega (arith, q.1, count_same (looked_at (set w.marks x loose) (queue_of rest job (w.queue ++ x ∷ []) v)) (looked_at w.marks (queue_of rest job w.queue v)) (at w.rows v).targets (λ t _. queued_more v t)));
+              (q.0, omega (arith, q.1, count_same (is_processed (set w.marks x loose) (queue_of rest job (w.queue ++ x ∷ []) v)) (is_processed w.marks (queue_of rest job w.queue v)) (at w.rows v).targets (λ t _. queued_more v t)));
           steps = mark_steps (one_less w x) x one can_one ∙ p.steps;
         }
       where
-        queued_more : (v t : ℕ) → looked_at (set w.marks x loose) (queue_of rest job (w.queue ++ x ∷ []) v) t ≡ looked_at w.marks (queue_of rest job w.queue v) t
+        queued_more : (v t : ℕ) → is_processed (set w.marks x loose) (queue_of rest job (w.queue ++ x ∷ []) v) t ≡ is_processed w.marks (queue_of rest job w.queue v) t
         queued_more v t = go (rest v)
           where
-            go : (b : Bool) → looked_at (set w.marks x loose) (cond b (job ∷ (w.queue ++ x ∷ [])) (w.queue ++ x ∷ [])) t ≡ looked_at w.marks (cond b (job ∷ w.queue) w.queue) t
+            go : (b : Bool) → is_processed (set w.marks x loose) (cond b (job ∷ (w.queue ++ x ∷ [])) (w.queue ++ x ∷ [])) t ≡ is_processed w.marks (cond b (job ∷ w.queue) w.queue) t
             go true = done_same w.marks (job ∷ w.queue) x t (omega (arith, p.base.len, x_is_a_job)) m
             go false = done_same w.marks w.queue x t (omega (arith, p.base.len, x_is_a_job)) m
 
@@ -450,20 +450,20 @@ module _ (w₀ : Work) (job x : ℕ) (left rest : ℕ → Bool) (w : Work) (p : 
 
 -- ---- the end
 
-pub all_decided : (w : Work) → w.queue ≡ [] → SoundMarks w → Settled w → Decided w.rows w.marks
+pub all_decided : (w : Work) → w.queue ≡ [] → SoundMarks w → IsSaturated w → IsDecided w.rows w.marks
 all_decided w none b s = record {
   len = b.len;
   bits = b.bits;
   loosened = λ v h. (λ m. b.sound v m, λ f. f (is_loose w.marks) closed);
 }
   where
-    all : (v : ℕ) → looked_at w.marks w.queue v ≡ is_loose w.marks v
+    all : (v : ℕ) → is_processed w.marks w.queue v ≡ is_loose w.marks v
     all v = rw none (grind (arith, nat_tests))
 
     short : (v : ℕ) → v < length w.rows → is_loose w.marks v ≡ false → count (is_loose w.marks) (at w.rows v).targets < (at w.rows v).need
-    short v h m = let e = count_same (looked_at w.marks w.queue) (is_loose w.marks) (at w.rows v).targets (λ u _. all u) in let p = s v h m in omega (arith, e, p.0, p.1)
+    short v h m = let e = count_same (is_processed w.marks w.queue) (is_loose w.marks) (at w.rows v).targets (λ u _. all u) in let p = s v h m in omega (arith, e, p.0, p.1)
 
-    closed : Closed w.rows (is_loose w.marks)
+    closed : IsClosed w.rows (is_loose w.marks)
     closed = record {
       active = λ v h z. elim (cases_Bool (is_loose w.marks v)) [ inl m ↦ m | inr m ↦ absurd (omega (arith, short v h m)) ];
       blocked = λ v h p n. elim (cases_Bool (is_loose w.marks v)) [ inl m ↦ m | inr m ↦ absurd (omega (arith, short v h m)) ];

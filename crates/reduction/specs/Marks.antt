@@ -6,9 +6,9 @@ abbrev pub loose : ℕ
 loose = 0
 
 -- The byte of any other job.
-abbrev pub held : ℕ
-held = 1
+abbrev pub stuck : ℕ
+stuck = 1
 
 -- The jobs whose bytes say that they are loosened. Beyond the bytes there is none.
 abbrev pub is_loose : List ℕ → ℕ → Bool
-is_loose bytes v = slice_index_or bytes v held == loose
+is_loose bytes v = slice_index_or bytes v stuck == loose

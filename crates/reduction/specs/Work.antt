@@ -1,9 +1,9 @@
 -- How far a reduction has come: what its steps keep.
 use Rattle.std.specs.Prelude.{◌≡◌, ℕ, ◌+◌, ◌-◌, ◌<◌, ◌≤◌, Bool, true, false, cond, not, ◌&&◌, ◌⊎◌, ◌↔◌, List, [], ◌∷◌, ◌++◌, length, count_by, ◌==◌, nat_eq, slice_index, slice_index_or, slice_set}
 use Rattle.rows.specs.Waiting.{Waiting, at, among}
-use Rattle.tables.specs.ClosedSets.{count, Loosened}
+use Rattle.tables.specs.ClosedSets.{count, IsLoosened}
 use Rattle.tables.specs.Tables.{jobs_max, lawful}
-use Rattle.reduction.specs.Marks.{loose, held, is_loose}
+use Rattle.reduction.specs.Marks.{loose, stuck, is_loose}
 
 -- The rows of the table, the jobs' marks, how many targets each job that is not marked lacks, and the queued jobs: those that are marked,
 -- whose waiters are still to be looked at.
@@ -22,8 +22,8 @@ abbrev pub steps_left : Work → ℕ
 steps_left w = length w.queue + (length w.marks - loose_count w.marks)
 
 -- The jobs that are marked, and no longer queued: their waiters have been looked at.
-abbrev pub looked_at : (marks queue : List ℕ) → ℕ → Bool
-looked_at marks queue v = is_loose marks v && not (among v queue)
+abbrev pub is_processed : (marks queue : List ℕ) → ℕ → Bool
+is_processed marks queue v = is_loose marks v && not (among v queue)
 
 -- No number stands in a list twice.
 abbrev pub NoneTwice : List ℕ → Type 0
@@ -37,8 +37,8 @@ pub record SoundMarks (w : Work) : Type 0 where
   pub counters : length w.lacking ≡ jobs_max
   pub lawful : lawful w.rows ≡ true
   pub len : length w.rows ≤ length w.marks
-  pub bits : (v : ℕ) → v < length w.rows → (slice_index_or w.marks v held ≡ loose) ⊎ (slice_index_or w.marks v held ≡ held)
-  pub sound : (v : ℕ) → is_loose w.marks v ≡ true → Loosened w.rows v
+  pub bits : (v : ℕ) → v < length w.rows → (slice_index_or w.marks v stuck ≡ loose) ⊎ (slice_index_or w.marks v stuck ≡ stuck)
+  pub sound : (v : ℕ) → is_loose w.marks v ≡ true → IsLoosened w.rows v
   pub queued : (v : ℕ) → among v w.queue ≡ true → is_loose w.marks v ≡ true
   pub once : NoneTwice w.queue
   pub few : length w.queue ≤ loose_count w.marks
@@ -48,16 +48,16 @@ abbrev pub Lacks : Work → (done : ℕ → Bool) → ℕ → Type 0
 Lacks w done v = (0 < slice_index w.lacking v) × (slice_index w.lacking v + count done (at w.rows v).targets ≡ (at w.rows v).need)
 
 -- Each job that is not marked lacks what it needs, less its targets whose waiters have been looked at.
-abbrev pub Settled : Work → Type 0
-Settled w = (v : ℕ) → v < length w.rows → is_loose w.marks v ≡ false → Lacks w (looked_at w.marks w.queue) v
+abbrev pub IsSaturated : Work → Type 0
+IsSaturated w = (v : ℕ) → v < length w.rows → is_loose w.marks v ≡ false → Lacks w (is_processed w.marks w.queue) v
 
 -- A job more is at hand, before those that are queued.
-abbrev pub at_hand : Work → ℕ → Work
-at_hand w job = record w { queue = job ∷ w.queue }
+abbrev pub with_current : Work → ℕ → Work
+with_current w job = record w { queue = job ∷ w.queue }
 
 -- A marked job was taken from the queue, and its waiters are to be looked at.
-pub record AtHand (w : Work) (job : ℕ) : Type 0 where
-  pub settled : Settled (at_hand w job)
+pub record IsCurrent (w : Work) (job : ℕ) : Type 0 where
+  pub saturated : IsSaturated (with_current w job)
   pub marked : is_loose w.marks job ≡ true
   pub apart : among job w.queue ≡ false
 
@@ -65,7 +65,7 @@ pub record AtHand (w : Work) (job : ℕ) : Type 0 where
 pub record CanBeLoosened (w : Work) (job : ℕ) : Type 0 where
   pub is_job : job < length w.rows
   pub unmarked : is_loose w.marks job ≡ false
-  pub loosened : Loosened w.rows job
+  pub loosened : IsLoosened w.rows job
 
 -- A job more is marked and queued.
 abbrev pub with_loose : Work → ℕ → Work
@@ -88,7 +88,7 @@ pub record CanBeLowered (w : Work) (job : ℕ) : Type 0 where
   pub last : is_loose w.marks job ≡ false → slice_index w.lacking job ≡ 1 → CanBeLoosened w job
 
 -- Every mark is 0 or 1, and 0 exactly for the loosened jobs.
-pub record Decided (rows : List Waiting) (marks : List ℕ) : Type 0 where
+pub record IsDecided (rows : List Waiting) (marks : List ℕ) : Type 0 where
   pub len : length rows ≤ length marks
-  pub bits : (v : ℕ) → v < length rows → (slice_index_or marks v held ≡ loose) ⊎ (slice_index_or marks v held ≡ held)
-  pub loosened : (v : ℕ) → v < length rows → (is_loose marks v ≡ true) ↔ Loosened rows v
+  pub bits : (v : ℕ) → v < length rows → (slice_index_or marks v stuck ≡ loose) ⊎ (slice_index_or marks v stuck ≡ stuck)
+  pub loosened : (v : ℕ) → v < length rows → (is_loose marks v ≡ true) ↔ IsLoosened rows v

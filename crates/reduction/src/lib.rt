@@ -7,5 +7,5 @@ mod marks;
 mod passes;
 
 pub use fault::ReductionFault;
-pub use marks::{HELD, LOOSE};
+pub use marks::{LOOSE, STUCK};
 pub use passes::reduce;

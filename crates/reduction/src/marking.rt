@@ -2,9 +2,9 @@
 ghost use Rattle.std.specs.Prelude.{◌≡◌};
 ghost use Rattle.containers.specs.Held.{vacant};
 ghost use Rattle.tables.specs.Tables.{jobs_max};
-ghost use Rattle.reduction.specs.Work.{Settled, AtHand, CanBeLoosened, CanBeLowered, steps_left, with_loose, lowered};
+ghost use Rattle.reduction.specs.Work.{IsSaturated, IsCurrent, CanBeLoosened, CanBeLowered, steps_left, with_loose, lowered};
 
-use crate::marks::{HELD, LOOSE};
+use crate::marks::{LOOSE, STUCK};
 use containers::{Container, Queue};
 use std::marker::Model;
 use tables::{Indexed, JOB_WORDS, JOBS_MAX, Table, WORD_JOBS};
@@ -38,11 +38,11 @@ impl<'a, 'q, T: Table> Marking<'a, 'q, T> {
     pub(crate) fn begin(table: &'a Indexed<'a, T>, queue: Queue<'q, u8>) -> Marking<'a, 'q, T>
         requires { queue ≡ vacant jobs_max }
         ensures rows { result.rows ≡ T.Table.rows table.now.table.now }
-        ensures settled { Settled result }
+        ensures saturated { IsSaturated result }
     {
         let mut marking = Marking {
             table,
-            marks: [HELD; JOBS_MAX],
+            marks: [STUCK; JOBS_MAX],
             lacking: [0; JOBS_MAX],
             queue,
         };
@@ -59,9 +59,9 @@ impl<'a, 'q, T: Table> Marking<'a, 'q, T> {
 
     // Looks at the waiters of a job: each lacks a target less, and one that then lacks none is marked and queued.
     pub(crate) fn mark_waiters(&mut self, job: usize)
-        requires { AtHand self.old job }
+        requires { IsCurrent self.old job }
         ensures rows { self.new.rows ≡ self.old.rows }
-        ensures settled { Settled self.new }
+        ensures saturated { IsSaturated self.new }
         ensures steps { steps_left self.new ≡ steps_left self.old }
     {
         let table = self.table;

@@ -1,6 +1,6 @@
 // The reduction: jobs are loosened one after the other, until no more can be.
 ghost use Rattle.std.specs.Prelude.{◌≡◌, length, MatchResult};
-ghost use Rattle.reduction.specs.Work.{Decided};
+ghost use Rattle.reduction.specs.Work.{IsDecided};
 ghost use Rattle.reduction.specs.Faults.{refusal_number};
 ghost use Rattle.reduction.specs.Reduced.{stop, Reduced};
 
@@ -27,7 +27,7 @@ pub fn reduce<T: Table>(table: &T, bytes: &mut [u8]) -> Result<(), ReductionFaul
 
 // The marks of a table's jobs, when no more can be loosened.
 fn marks_of<T: Table>(table: &Indexed<'_, T>) -> [u8; JOBS_MAX]
-    ensures { Decided (T.Table.rows table.now.table.now) result }
+    ensures { IsDecided (T.Table.rows table.now.table.now) result }
 {
     let mut cells = [0; JOBS_MAX];
     let mut marking = Marking::begin(table, Queue::new(&mut cells));

@@ -3,7 +3,7 @@ use crate::names::{JOBS, name_of};
 use crate::trouble::Trouble;
 use book::{PlainRow, Snapshot};
 use chart::{CHART_MAX, Chart, write_chart};
-use reduction::{HELD, reduce};
+use reduction::{STUCK, reduce};
 use std::io;
 
 // The row of a job; beyond the last job it is idle.
@@ -41,7 +41,7 @@ pub fn waiting(rt: &HostRuntime, seen: &Snapshot) -> Result<(), Trouble> {
     for (job, mark) in marks.iter().enumerate() {
         if row_of(seen, job).need > 0 {
             let name = name_of(job);
-            let word = word(*mark == HELD);
+            let word = word(*mark == STUCK);
             print!(rt; "  {name}: ")?;
             row(rt, seen, job)?;
             println!(rt; " ({word})")?;

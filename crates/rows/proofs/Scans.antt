@@ -6,7 +6,7 @@ use Rattle.std.specs.List.{AllAdjacentBelow, IsAllAdjacentAnswer, position_or_le
 use Rattle.std.specs.Simd.Lanes.{mask_l}
 use Rattle.rows.specs.Waiting.{among}
 use Rattle.rows.specs.Law.{rising}
-use Rattle.rows.specs.Places.{Placed}
+use Rattle.rows.specs.Places.{IsPlaceOf}
 
 -- Rising: each target is below the next.
 suc_plus_one : (k : ℕ) → suc k + 1 ≡ suc (k + 1)
@@ -32,7 +32,7 @@ rising_where_neighbours_rise (t ∷ ts) true h = rw (le-leb 0 t (omega arith)) (
 rising_where_neighbours_rise (t ∷ ts) false h = rw (le-leb 0 t (omega arith)) (sym (neighbours_fall t ts h.0 h.1 h.2))
 
 -- The place of a job: the first position at which it stands.
-first_position_is_placed : (u : ℕ) (ts : List ℕ) → position_or_len (λ t. eqb t u) ts < length ts → Placed u ts (Some (position_or_len (λ t. eqb t u) ts))
+first_position_is_placed : (u : ℕ) (ts : List ℕ) → position_or_len (λ t. eqb t u) ts < length ts → IsPlaceOf u ts (Some (position_or_len (λ t. eqb t u) ts))
 first_position_is_placed u [] l = absurd (omega arith)
 first_position_is_placed u (t ∷ ts) l =
     ⊎_elim
@@ -51,7 +51,7 @@ not_among_where_no_position u (t ∷ ts) l =
     (λ (e : eqb t u ≡ false). rw e (not_among_where_no_position u ts (omega (arith, rw e at l))))
     (cases_Bool (eqb t u))
 
-pub position_is_placed : (u : ℕ) (ts : List ℕ) (found : Option ℕ) → found ≡ position (λ t. eqb t u) ts → Placed u ts found
+pub position_is_placed : (u : ℕ) (ts : List ℕ) (found : Option ℕ) → found ≡ position (λ t. eqb t u) ts → IsPlaceOf u ts found
 position_is_placed u ts found h =
     let first = position_or_len (λ t. eqb t u) ts in
     elim (cases_lt first (length ts)) [

@@ -19,9 +19,9 @@ without u [] = []
 without u (t ∷ ts) = cond (t == u) ts (t ∷ without u ts)
 
 -- Where nothing is needed any more, the other waits vanish.
-abbrev pub settled : Waiting → Waiting
-settled w = cond (w.need == 0) idle w
+abbrev pub cleared_if_met : Waiting → Waiting
+cleared_if_met w = cond (w.need == 0) idle w
 
 -- The row after a grant by u: the wait for u goes, and the need falls by one.
 abbrev pub granted : ℕ → Waiting → Waiting
-granted u w = settled (record { need = w.need - 1; targets = without u w.targets })
+granted u w = cleared_if_met (record { need = w.need - 1; targets = without u w.targets })

@@ -5,6 +5,6 @@ use Rattle.rows.specs.Waiting.{among}
 use Rattle.rows.specs.Changes.{without}
 
 -- The place of u, which is what `without` takes out; or none, where u is not among the targets.
-abbrev pub Placed : ℕ → List ℕ → Option ℕ → Type 0
-Placed u ts None = among u ts ≡ false
-Placed u ts (Some place) = (among u ts ≡ true) × (place < length ts) × (remove ts place ≡ without u ts)
+abbrev pub IsPlaceOf : ℕ → List ℕ → Option ℕ → Type 0
+IsPlaceOf u ts None = among u ts ≡ false
+IsPlaceOf u ts (Some place) = (among u ts ≡ true) × (place < length ts) × (remove ts place ≡ without u ts)

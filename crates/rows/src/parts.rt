@@ -4,7 +4,7 @@ ghost use Rattle.std.specs.List.{remove};
 ghost use Rattle.rows.specs.Waiting.{among};
 ghost use Rattle.rows.specs.Law.{targets_max, counts_fit, rising, row_fits, all_zero, places_fit};
 ghost use Rattle.rows.specs.Changes.{first_wrong};
-ghost use Rattle.rows.specs.Places.{Placed};
+ghost use Rattle.rows.specs.Places.{IsPlaceOf};
 ghost use Rattle.rows.specs.StoredRows.{places_of};
 
 use crate::plain::TARGETS_MAX;
@@ -27,7 +27,7 @@ pub fn rises(targets: &[u8]) -> bool
 
 /// The place of a job among the targets.
 pub fn place_of(targets: &[u8], job: usize) -> Option<usize>
-    ensures { Placed job targets.now result }
+    ensures { IsPlaceOf job targets.now result }
 {
     targets.iter().position(|target| *target as usize == job)
 }

@@ -26,7 +26,7 @@ use Rattle.histories.specs.Answers.{Answer, done}
 use Rattle.store.specs.EditAnswers.{refusal, refused_at}
 use Rattle.store.specs.Replies.{edit_reply, open_reply_by_id}
 use Rattle.histories.specs.Histories.{CallStep}
-use Rattle.store.specs.Memory.{Lawful}
+use Rattle.store.specs.Memory.{IsLawful}
 use Rattle.histories.proofs.TicketIdAnswers.{ticket_id_answer}
 use Rattle.histories.proofs.CallLemmas.{open_call_step, stopped_call_step, edit_call_step}
 use Rattle.store.proofs.LawfulMemory.{written_lawful}
@@ -49,14 +49,14 @@ opening_call_step n s t r e f = rw (opening_replies r) (open_call_step n waiting
 -- ---- edits
 
 -- a row that is written, as it is stored
-module _ (n : ℕ) (s : State PlainRow) (l : Lawful n s) (job : ℕ) (row : Row) (p : PlainRow) (h : StoredWhole row p) (less : job < length (view n waiting s).rows) where
+module _ (n : ℕ) (s : State PlainRow) (l : IsLawful n s) (job : ℕ) (row : Row) (p : PlainRow) (h : StoredWhole row p) (less : job < length (view n waiting s).rows) where
   below : job < n
   below = rw (jobs_seen n s l) at less
 
   says_the_row : waiting p ≡ waiting_of row
   says_the_row = (h.decided p h.lawful).0 refl
 
-  pub write_lawful : row_fits (length (view n waiting s).rows) job (waiting_of row) ≡ true → Lawful n (written s job p)
+  pub write_lawful : row_fits (length (view n waiting s).rows) job (waiting_of row) ≡ true → IsLawful n (written s job p)
   write_lawful fits =
       written_lawful n s l job p below (sound_fits n job p h.lawful (ap (row_fits n job) says_the_row ∙ ap (λ k. row_fits k job (waiting_of row)) (sym (jobs_seen n s l)) ∙ fits))
 

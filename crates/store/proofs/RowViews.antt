@@ -16,7 +16,7 @@ use Rattle.groups.specs.State.{State}
 use Rattle.groups.specs.StateViews.{view}
 use Rattle.groups.proofs.ObeysLemmas.{read_obeys, view_obeys}
 use Rattle.groups.proofs.ViewLemmas.{length_view}
-use Rattle.store.specs.Memory.{Lawful}
+use Rattle.store.specs.Memory.{IsLawful}
 
 -- all stored rows are sound
 pub obeying_rows_are_sound : (n job : ℕ) (rows : List PlainRow) → rows_obey (plain_fits n) job rows ≡ true → all_sound rows ≡ true
@@ -33,7 +33,7 @@ sound_is_checked p (Err e) h o = absurd (cc (h, o))
 pub checked_is : (p : PlainRow) (r : Result Row LawBroken) (row : Row) → Checked p r → r ≡ Ok row → row.plain ≡ p
 checked_is p r row h e = (subst (Checked p) e h).1
 
-module _ (n : ℕ) (s : State PlainRow) (l : Lawful n s) where
+module _ (n : ℕ) (s : State PlainRow) (l : IsLawful n s) where
   pub wide : n ≤ length s.rows
   wide = omega (arith, l.few, l.obeys.whole)
 

@@ -7,6 +7,6 @@ use Rattle.groups.specs.Obeys.{Obeys}
 use Rattle.groups.specs.State.{State}
 
 -- The rows of n jobs, as they are stored: every row and every undo record obeys the row law.
-pub record Lawful (n : ℕ) (s : State PlainRow) : Type 0 where
+pub record IsLawful (n : ℕ) (s : State PlainRow) : Type 0 where
   pub few : n ≤ jobs_max
   pub obeys : Obeys (plain_fits n) s

@@ -18,11 +18,11 @@ impl<'a> Model for Store<'a> {
     ghost use Rattle.rows.specs.StoredRows.{waiting};
     ghost use Rattle.groups.specs.StateViews.{view as seen};
     ghost use Rattle.store.specs.Books.{PlainBook, book_of};
-    ghost use Rattle.store.specs.Memory.{Lawful};
+    ghost use Rattle.store.specs.Memory.{IsLawful};
 
     ghost Value = { PlainBook };
 
     ghost view = { λ b. book_of (seen b.jobs waiting b.groups) };
 
-    ghost invariant = { λ b. Lawful b.jobs b.groups };
+    ghost invariant = { λ b. IsLawful b.jobs b.groups };
 }

@@ -9,15 +9,15 @@ use Rattle.std.proofs.lemmas.Bool.Decides.{nat_tests}
 use Rattle.rows.specs.Waiting.{Waiting, idle, at, among}
 use Rattle.rows.specs.Changes.{without, granted}
 use Rattle.tables.specs.Tables.{waits}
-use Rattle.tables.specs.ClosedSets.{count, Closed, Loosened}
-use Rattle.tables.specs.Grants.{Grant, Allowed, granted_rows, rows_after, LawfulGrants, CanBeFreed, LoosenedCanBeFreed}
+use Rattle.tables.specs.ClosedSets.{count, IsClosed, IsLoosened}
+use Rattle.tables.specs.Grants.{Grant, IsAllowed, granted_rows, rows_after, LawfulGrants, CanBeFreed, LoosenedCanBeFreed}
 use Rattle.tables.proofs.Laws.{who_waits_is_a_job}
 
 -- The two rules of a closed set as one.
-pub closed_at : (rows : List Waiting) (S : ℕ → Bool) → Closed rows S → (v : ℕ) → v < length rows → (at rows v).need ≤ count S (at rows v).targets → S v ≡ true
+pub closed_at : (rows : List Waiting) (S : ℕ → Bool) → IsClosed rows S → (v : ℕ) → v < length rows → (at rows v).need ≤ count S (at rows v).targets → S v ≡ true
 closed_at rows S c v l h = elim (cases_eq (at rows v).need 0) [ inl z ↦ c.active v l z | inr z ↦ c.blocked v l (omega arith) h ]
 
-pub closed_from : (rows : List Waiting) (S : ℕ → Bool) → ((v : ℕ) → v < length rows → (at rows v).need ≤ count S (at rows v).targets → S v ≡ true) → Closed rows S
+pub closed_from : (rows : List Waiting) (S : ℕ → Bool) → ((v : ℕ) → v < length rows → (at rows v).need ≤ count S (at rows v).targets → S v ≡ true) → IsClosed rows S
 closed_from rows S f = record { active = λ v l z. f v l (omega arith); blocked = λ v l p h. f v l h }
 
 -- One target less.
@@ -50,7 +50,7 @@ row_after_a_write P d xs i x k h here there =
       | inr n ↦ subst (P k) (sym (get_or-set_other xs i k x d n)) (there n)
     ]
 
-module _ (rows : List Waiting) (g : Grant) (law : Allowed rows g) where
+module _ (rows : List Waiting) (g : Grant) (law : IsAllowed rows g) where
   abbrev row : Waiting
   row = granted g.granter (at rows g.waiter)
 
@@ -66,14 +66,14 @@ module _ (rows : List Waiting) (g : Grant) (law : Allowed rows g) where
       (granted_row_asks_the_same S g.granter (at rows g.waiter) s law.waits)
       (λ n. Iff.rfl)
 
-  closed_after_a_grant : (S : ℕ → Bool) → Closed rows S → Closed (granted_rows rows g) S
+  closed_after_a_grant : (S : ℕ → Bool) → IsClosed rows S → IsClosed (granted_rows rows g) S
   closed_after_a_grant S c = closed_from (granted_rows rows g) S (λ v l h. closed_at rows S c v (omega (arith, as_many_rows)) ((asks_the_same S (c.active g.granter law.job law.active) v).1 h))
 
   granter_stays_active : (at (granted_rows rows g) g.granter).need ≡ 0
   granter_stays_active =
       row_after_a_write (λ k w. (at rows k).need ≡ 0 → w.need ≡ 0) idle rows g.waiter row g.granter waiter_is_a_job (λ z. grind (arith, nat_tests)) (λ n z. z) law.active
 
-  closed_before_a_grant : (S : ℕ → Bool) → Closed (granted_rows rows g) S → Closed rows S
+  closed_before_a_grant : (S : ℕ → Bool) → IsClosed (granted_rows rows g) S → IsClosed rows S
   closed_before_a_grant S c =
       closed_from rows S (λ v l h.
       closed_at (granted_rows rows g) S c v (omega (arith, as_many_rows)) ((asks_the_same S (c.active g.granter (omega (arith, as_many_rows, law.job)) granter_stays_active) v).0 h))
@@ -87,7 +87,7 @@ pub as_many_rows_after_grants : (rows : List Waiting) (gs : List Grant) → leng
 as_many_rows_after_grants rows [] = refl
 as_many_rows_after_grants rows (g ∷ gs) = as_many_rows_after_grants (granted_rows rows g) gs ∙ length-set rows g.waiter (granted g.granter (at rows g.waiter))
 
-pub closed_as_before_grants : (rows : List Waiting) (gs : List Grant) → LawfulGrants rows gs → (S : ℕ → Bool) → Closed rows S ↔ Closed (rows_after rows gs) S
+pub closed_as_before_grants : (rows : List Waiting) (gs : List Grant) → LawfulGrants rows gs → (S : ℕ → Bool) → IsClosed rows S ↔ IsClosed (rows_after rows gs) S
 closed_as_before_grants rows [] l S = Iff.rfl
 closed_as_before_grants rows (g ∷ gs) l S =
     let ih = closed_as_before_grants (granted_rows rows g) gs l.1 S in
@@ -101,7 +101,7 @@ active rows v = ltb v (length rows) && eqb (at rows v).need 0
 abbrev Settled : List Waiting → Type 0
 Settled rows = (v : ℕ) → v < length rows → count (active rows) (at rows v).targets ≡ 0
 
-settled_actives_are_closed : (rows : List Waiting) → Settled rows → Closed rows (active rows)
+settled_actives_are_closed : (rows : List Waiting) → Settled rows → IsClosed rows (active rows)
 settled_actives_are_closed rows f = closed_from rows (active rows) (λ v l h. let z = f v l in grind (arith, nat_tests))
 
 -- Some target is in the set, or none counts.
@@ -115,11 +115,11 @@ held_target_or_none S (t ∷ ts) = go (held_target_or_none S ts) (cases_Bool (S 
     go (inr z) (inr e) = inr (grind arith)
 
 -- Some grant is allowed, or none of the first k jobs waits for an active one.
-allowed_or_settled_below : (rows : List Waiting) (k : ℕ) → ((g : Grant) × Allowed rows g) ⊎ ((v : ℕ) → v < k → count (active rows) (at rows v).targets ≡ 0)
+allowed_or_settled_below : (rows : List Waiting) (k : ℕ) → ((g : Grant) × IsAllowed rows g) ⊎ ((v : ℕ) → v < k → count (active rows) (at rows v).targets ≡ 0)
 allowed_or_settled_below rows zero = inr (λ v l. absurd (omega arith))
 allowed_or_settled_below rows (suc k) = go (allowed_or_settled_below rows k) (held_target_or_none (active rows) (at rows k).targets)
   where
-    go : ((g : Grant) × Allowed rows g) ⊎ ((v : ℕ) → v < k → count (active rows) (at rows v).targets ≡ 0) → ((u : ℕ) × (among u (at rows k).targets ≡ true) × (active rows u ≡ true)) ⊎ (count (active rows) (at rows k).targets ≡ 0) → ((g : Grant) × Allowed rows g) ⊎ ((v : ℕ) → v < suc k → count (active rows) (at rows v).targets ≡ 0)
+    go : ((g : Grant) × IsAllowed rows g) ⊎ ((v : ℕ) → v < k → count (active rows) (at rows v).targets ≡ 0) → ((u : ℕ) × (among u (at rows k).targets ≡ true) × (active rows u ≡ true)) ⊎ (count (active rows) (at rows k).targets ≡ 0) → ((g : Grant) × IsAllowed rows g) ⊎ ((v : ℕ) → v < suc k → count (active rows) (at rows v).targets ≡ 0)
     go (inl g) d = inl g
     go (inr f) (inl p) = inl (record { granter = p.0; waiter = k }, record { job = grind (arith, nat_tests); active = grind (arith, nat_tests); waits = p.1 })
     go (inr f) (inr z) = inr (λ v l. elim (cases_eq v k) [ inl e ↦ rw e z | inr n ↦ f v (omega arith) ])
@@ -129,7 +129,7 @@ settled_by_grants : (k : ℕ) (rows : List Waiting) → waits rows < k → (gs :
 settled_by_grants zero rows h = absurd (omega arith)
 settled_by_grants (suc k) rows h = go (allowed_or_settled_below rows (length rows)) (λ g law. settled_by_grants k (granted_rows rows g) (omega (arith, fewer_waits rows g law)))
   where
-    go : ((g : Grant) × Allowed rows g) ⊎ Settled rows → ((g : Grant) → Allowed rows g → (gs : List Grant) × LawfulGrants (granted_rows rows g) gs × Settled (rows_after (granted_rows rows g) gs)) → (gs : List Grant) × LawfulGrants rows gs × Settled (rows_after rows gs)
+    go : ((g : Grant) × IsAllowed rows g) ⊎ Settled rows → ((g : Grant) → IsAllowed rows g → (gs : List Grant) × LawfulGrants (granted_rows rows g) gs × Settled (rows_after (granted_rows rows g) gs)) → (gs : List Grant) × LawfulGrants rows gs × Settled (rows_after rows gs)
     go (inl g) more = let m = more g.0 g.1 in (g.0 ∷ m.0, (g.1, m.1), m.2)
     go (inr f) more = ([], tt, f)
 
@@ -138,7 +138,7 @@ pub loosened_can_be_freed : LoosenedCanBeFreed
 loosened_can_be_freed rows v h =
     (freed, λ f S c. ((closed_as_before_grants rows f.0 f.1 S).0 c).active v (omega (arith, as_many_rows_after_grants rows f.0)) f.2)
   where
-    freed : Loosened rows v → CanBeFreed rows v
+    freed : IsLoosened rows v → CanBeFreed rows v
     freed loosened =
         let m = settled_by_grants (suc (waits rows)) rows (omega arith) in
         let after = rows_after rows m.0 in

@@ -2,7 +2,7 @@
 use Rattle.std.specs.Prelude.{◌≡◌, ℕ, ◌<◌, true, ◌↔◌, List, [], ◌∷◌, length, slice_set}
 use Rattle.rows.specs.Waiting.{Waiting, at, among}
 use Rattle.rows.specs.Changes.{granted}
-use Rattle.tables.specs.ClosedSets.{Loosened}
+use Rattle.tables.specs.ClosedSets.{IsLoosened}
 
 -- A grant: who grants, and who waits.
 pub record Grant : Type 0 where
@@ -10,7 +10,7 @@ pub record Grant : Type 0 where
   pub waiter : ℕ
 
 -- The grant rule allows a grant when the granter is an active job and the waiter waits for it.
-pub record Allowed (rows : List Waiting) (g : Grant) : Type 0 where
+pub record IsAllowed (rows : List Waiting) (g : Grant) : Type 0 where
   pub job : g.granter < length rows
   pub active : (at rows g.granter).need ≡ 0
   pub waits : among g.granter (at rows g.waiter).targets ≡ true
@@ -27,7 +27,7 @@ rows_after rows (g ∷ gs) = rows_after (granted_rows rows g) gs
 -- Each grant of a lawful list is allowed after those before it; the empty list is lawful.
 abbrev pub LawfulGrants : List Waiting → List Grant → Type 0
 LawfulGrants rows [] = Unit {0}
-LawfulGrants rows (g ∷ gs) = Allowed rows g × LawfulGrants (granted_rows rows g) gs
+LawfulGrants rows (g ∷ gs) = IsAllowed rows g × LawfulGrants (granted_rows rows g) gs
 
 -- Some list of lawful grants makes a job active.
 abbrev pub CanBeFreed : List Waiting → ℕ → Type 0
@@ -35,4 +35,4 @@ CanBeFreed rows v = (gs : List Grant) × LawfulGrants rows gs × ((at (rows_afte
 
 -- The loosened jobs are those that lawful grants can make active.
 abbrev pub LoosenedCanBeFreed : Type 0
-LoosenedCanBeFreed = (rows : List Waiting) (v : ℕ) → v < length rows → Loosened rows v ↔ CanBeFreed rows v
+LoosenedCanBeFreed = (rows : List Waiting) (v : ℕ) → v < length rows → IsLoosened rows v ↔ CanBeFreed rows v

@@ -9,4 +9,4 @@ mod walks;
 pub use freeing::loosened_jobs_can_be_freed;
 pub use indexed::{INDEX_WORDS, Indexed, JOB_WORDS, WORD_JOBS};
 pub use table::{JOBS_MAX, Table, TwoWayTable, WAITS_MAX};
-pub use walks::{TargetsOf, WaitersOf};
+pub use walks::{Targets, Waiters};

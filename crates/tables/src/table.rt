@@ -4,7 +4,7 @@ ghost use Rattle.rows.specs.Waiting.{Waiting, at, among, target_at};
 ghost use Rattle.tables.specs.Tables.{jobs_max, waits_max, lawful, waits, waiters, first_from};
 ghost use Rattle.tables.specs.Walks.{targets_left, waiters_left};
 
-use crate::walks::{TargetsOf, WaitersOf};
+use crate::walks::{Targets, Waiters};
 use rows::TARGETS_MAX;
 
 /// How many jobs a table has at most.
@@ -59,12 +59,12 @@ pub trait Table {
     }
 
     // The targets of a job, one after the other.
-    final fn targets(&self, job: usize) -> TargetsOf<'_, Self>
+    final fn targets(&self, job: usize) -> Targets<'_, Self>
     where
         Self: Sized,
         ensures { targets_left rows result ≡ (at (rows self.now) job).targets }
     {
-        TargetsOf {
+        Targets {
             table: self,
             job,
             places: 0..self.target_count(job),
@@ -97,12 +97,12 @@ pub trait TwoWayTable: Table {
     }
 
     // The waiters of a job, by rising number.
-    final fn waiters(&self, job: usize) -> WaitersOf<'_, Self>
+    final fn waiters(&self, job: usize) -> Waiters<'_, Self>
     where
         Self: Sized,
         ensures { waiters_left Self.Table.rows result ≡ waiters (Self.Table.rows self.now) job }
     {
-        WaitersOf {
+        Waiters {
             table: self,
             job,
             from: 0,

@@ -7,13 +7,13 @@ use std::ops::Range;
 
 /// The targets of a job at the places that are left.
 #[derive(Drop)]
-pub struct TargetsOf<'a, T> {
+pub struct Targets<'a, T> {
     pub(crate) table: &'a T,
     pub(crate) job: usize,
     pub(crate) places: Range<usize>,
 }
 
-impl<'a, T: Table> Iterator for TargetsOf<'a, T> {
+impl<'a, T: Table> Iterator for Targets<'a, T> {
     type Item = u8;
 
     ghost next_gives = { YieldsFirst (targets_left T.rows) };
@@ -28,13 +28,13 @@ impl<'a, T: Table> Iterator for TargetsOf<'a, T> {
 
 /// The jobs not below `from` that wait for a job.
 #[derive(Drop)]
-pub struct WaitersOf<'a, T> {
+pub struct Waiters<'a, T> {
     pub(crate) table: &'a T,
     pub(crate) job: usize,
     pub(crate) from: usize,
 }
 
-impl<'a, T: TwoWayTable> Iterator for WaitersOf<'a, T> {
+impl<'a, T: TwoWayTable> Iterator for Waiters<'a, T> {
     type Item = usize;
 
     ghost next_gives = { YieldsFirst (waiters_left T.Table.rows) };

@@ -3,7 +3,7 @@ use Rattle.std.proofs.Common.{◌≡◌, ℕ, ◌*◌, ◌≤◌, length, replic
 use Rattle.tables.specs.Tables.{waits}
 use Rattle.exchange.specs.Records.{blank}
 use Rattle.exchange.specs.declared.record.RunRecord.{RunRecord}
-use Rattle.detection.proofs.RunInvariant.{within_bounds, spread_has_room, run_begins, taken_message_is_awaited, puts_have_room, run_goes_on, fewer_deliveries_are_left}
+use Rattle.detection.proofs.RunInvariant.{within_bounds, spread_has_room, run_begins, taken_message_is_expected, puts_have_room, run_goes_on, fewer_deliveries_are_left}
 use Rattle.detection.proofs.FinishedRuns.{run_is_finished}
 use Rattle.detection.proofs.detector.run.Given as given
 use Rattle.detection.proofs.detector.run.Goals as goal
@@ -32,7 +32,7 @@ deliver-requires g c =
     let wide : 2 * waits rows ≤ (g.C.Carrier.carried c.spread.new.carrier).capacity = omega (arith, c.requires.room, c.spread.ensures.sent.capacity) in
     record {
       records = (within_bounds c.args.table.now.tabled c.requires.job c.loop-message.invariant).records;
-      awaited = taken_message_is_awaited c.args.table.now.tabled c.requires.job c.loop-message.invariant c.in-Some.ensures.took;
+      awaited = taken_message_is_expected c.args.table.now.tabled c.requires.job c.loop-message.invariant c.in-Some.ensures.took;
       room = puts_have_room c.args.table.now.tabled c.requires.job c.loop-message.invariant c.in-Some.ensures.took wide;
     }
 

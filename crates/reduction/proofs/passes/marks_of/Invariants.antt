@@ -1,11 +1,11 @@
 use Rattle.std.proofs.Common.{◌≡◌}
-use Rattle.reduction.specs.Work.{Settled, steps_left}
+use Rattle.reduction.specs.Work.{IsSaturated, steps_left}
 use Rattle.reduction.proofs.passes.marks_of.Given as goal
 
 abbrev pub invariant-loop-marking : goal.invariant-loop-marking
 invariant-loop-marking g l = record {
   rows : l.marking.rows ≡ g.T.Table.rows l.fn.table.table.now;
-  settled : Settled l.marking;
+  saturated : IsSaturated l.marking;
 }
 
 abbrev pub decreases-loop-marking : goal.decreases-loop-marking

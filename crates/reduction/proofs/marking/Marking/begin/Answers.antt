@@ -1,7 +1,7 @@
 use Rattle.std.proofs.Common.{◌+◌, ◌<◌, length, set, refl, sym, ap, subst, ◌∙◌, arith}
 use Rattle.rows.specs.Waiting.{at}
 use Rattle.reduction.specs.Work.{Work}
-use Rattle.reduction.proofs.Steps.{Started, start_made, start_first, start_skip, start_can, start_mark, start_settled}
+use Rattle.reduction.proofs.Steps.{Started, start_made, start_first, start_skip, start_can, start_mark, start_saturated}
 use Rattle.reduction.proofs.marking.Marking.begin.Goals as goal
 use Rattle.reduction.proofs.marking.Marking.begin.Goals.{then-need-eq0, else-need-eq0}
 
@@ -14,10 +14,10 @@ loop-job-init g c = record {
   started = start_first (g.T.Table.rows c.args.table.now.table.now) c.args.queue c.requires c.jobs-job-end.ensures.lawful (omega (arith, c.jobs-job-end.ensures.value, c.jobs-job-end.ensures.bound));
 }
 
-pub returns-clause-settled : goal.returns-clause-settled
-returns-clause-settled g c =
+pub returns-clause-saturated : goal.returns-clause-saturated
+returns-clause-saturated g c =
     let i = c.loop-job.invariant in
-    start_settled c.loop-job.marking c.loop-job.job (omega (arith, ap length i.rows, c.jobs-job-end.ensures.value, c.loop-job-test.false)) i.started
+    start_saturated c.loop-job.marking c.loop-job.job (omega (arith, ap length i.rows, c.jobs-job-end.ensures.value, c.loop-job-test.false)) i.started
 
 pub loop-job-preserved : goal.loop-job-preserved
 loop-job-preserved g c =

@@ -50,8 +50,8 @@ loop-word-preserved g c =
     let through = subst (λ (rest : ℕ). Lowering first c.args.job (left_in first.rows c.args.job c.loop-word.word rest) walk.self) c.loop-rest-test.false walk.invariant in
     lower_same first c.args.job _ _ walk.self (word_is_through first.rows c.args.job c.loop-word.word) through
 
-pub returns-clause-settled : goal.returns-clause-settled
-returns-clause-settled g c =
+pub returns-clause-saturated : goal.returns-clause-saturated
+returns-clause-saturated g c =
     let first = c.args.self.now in
     let sound = subst SoundMarks c.self.view_is c.self.invariant.0 in
     let end : c.loop-word.word ≡ 4 = omega (arith, c.loop-word-test.false, c.loop-word.auto.word-end) in

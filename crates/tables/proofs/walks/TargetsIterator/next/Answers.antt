@@ -3,7 +3,7 @@ use Rattle.tables.specs.Walks.{targets_left}
 use Rattle.tables.proofs.TargetLemmas.{target_walk_steps}
 use Rattle.tables.proofs.WalksLeft.{first_makes_progress}
 use Rattle.rows.specs.Waiting.{at}
-use Rattle.tables.proofs.walks.TargetsOfIterator.next.Goals as goal
+use Rattle.tables.proofs.walks.TargetsIterator.next.Goals as goal
 
 pub returns-clause-steps : goal.returns-clause-steps
 returns-clause-steps g c =

@@ -1,7 +1,7 @@
 -- The next waiter is the first of those that are left.
 use Rattle.std.proofs.Common.{sym, ap, length, rules, arith}
 use Rattle.tables.proofs.WaiterLemmas.{no_waiters_left, no_waiters_left_past_the_last_job, next_waiter_heads_those_left, next_waiter_is_a_job}
-use Rattle.tables.proofs.walks.WaitersOfIterator.next.Goals as goal
+use Rattle.tables.proofs.walks.WaitersIterator.next.Goals as goal
 
 pub returns-then-self-jobs-clause-steps : goal.returns-then-self-jobs-clause-steps
 returns-then-self-jobs-clause-steps g c =
