@@ -53,20 +53,15 @@ with_undo_record (g ∷ gs) x = (g ++ x ∷ []) ∷ gs
 
 -- The same of a state, in which nothing else changes.
 abbrev pub state_with_undo_record : {P : Type 0} → State P → UndoRecord P → State P
-state_with_undo_record s old = record { rows = s.rows; groups = with_undo_record s.groups old; mark = s.mark; trail_room = s.trail_room }
+state_with_undo_record s old = record s { groups = with_undo_record s.groups old }
 
 -- A write, with what stood there kept for the innermost group.
 abbrev pub written : {P : Type 0} → State P → ℕ → P → State P
-written s job row = record {
-  rows = slice_set s.rows job row;
-  groups = with_undo_record s.groups (undo_record s.rows job row);
-  mark = s.mark;
-  trail_room = s.trail_room;
-}
+written s job row = record s { rows = slice_set s.rows job row; groups = with_undo_record s.groups (undo_record s.rows job row) }
 
 -- One more group, which has nothing to put back yet.
 abbrev pub opened : {P : Type 0} → State P → State P
-opened s = record { rows = s.rows; groups = [] ∷ s.groups; mark = s.mark; trail_room = s.trail_room }
+opened s = record s { groups = [] ∷ s.groups }
 
 -- The innermost group's undo records are left to the next group outwards; the outermost's are forgotten.
 abbrev pub merged : {X : Type 0} → List (List X) → List (List X)
@@ -76,7 +71,7 @@ merged (g ∷ (h ∷ gs)) = (h ++ g) ∷ gs
 
 -- The innermost group ends, and its writes stay.
 abbrev pub kept : {P : Type 0} → State P → State P
-kept s = record { rows = s.rows; groups = merged s.groups; mark = s.mark; trail_room = s.trail_room }
+kept s = record s { groups = merged s.groups }
 
 -- The rows with old ones put back, the newest of them first.
 abbrev pub rolled_back : {P : Type 0} → List P → List (UndoRecord P) → List P
@@ -95,4 +90,4 @@ outside (g ∷ gs) = gs
 
 -- The innermost group ends, and its writes are undone.
 abbrev pub cancelled : {P : Type 0} → State P → State P
-cancelled s = record { rows = restored s.rows s.groups; groups = outside s.groups; mark = s.mark; trail_room = s.trail_room }
+cancelled s = record s { rows = restored s.rows s.groups; groups = outside s.groups }
