@@ -42,7 +42,7 @@ pub record Fitting (n job low t : ℕ) : Type 0 where
 pub target_fit_tells : (n job low t : ℕ) → target_fits n job low t ≡ true → Fitting n job low t
 target_fit_tells n job low t h = record { below = grind (arith, nat_tests); other = λ e. grind (arith, nat_tests); above = grind (arith, nat_tests) }
 
-target_fit_from : (n job low t : ℕ) → Fitting n job low t → target_fits n job low t ≡ true
+pub target_fit_from : (n job low t : ℕ) → Fitting n job low t → target_fits n job low t ≡ true
 target_fit_from n job low t f =
     let below : t < n = f.below in
     let other : t ≡ job → ⊥ = f.other in

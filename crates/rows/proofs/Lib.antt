@@ -8,3 +8,4 @@ mod StoredRowLemmas
 pub mod ComparisonLemmas
 pub mod Laws
 pub mod ObeysLemmas
+pub mod LawFactsLemmas
