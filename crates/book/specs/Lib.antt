@@ -14,11 +14,15 @@ pub use Rattle.store.specs.Creation
 pub use Rattle.store.specs.EditAnswers
 pub use Rattle.store.specs.Edits
 pub use Rattle.store.specs.Plain
+pub use Rattle.store.specs.declared.fault.BookFault
+pub use Rattle.scripts.specs.Commands
 pub use Rattle.scripts.specs.Workspace
 pub use Rattle.scripts.specs.Limits
 pub use Rattle.scripts.specs.ScriptCalls
+pub use Rattle.scripts.specs.ScriptFaults
 pub use Rattle.scripts.specs.ScriptRuns
 pub use Rattle.scripts.specs.Scripts
 pub use Rattle.scripts.specs.declared.fault.FinishedScript
 pub use Rattle.scripts.specs.declared.fault.ScriptFault
 pub use Rattle.scripts.specs.declared.fault.StoppedScript
+pub use Rattle.scripts.specs.declared.tally.Position
