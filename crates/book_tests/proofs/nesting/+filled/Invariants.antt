@@ -1,4 +1,0 @@
-use Rattle.book_tests.proofs.nesting.+filled.Given as goal
-
-abbrev pub decreases-filled : goal.decreases-filled
-decreases-filled l = l.most

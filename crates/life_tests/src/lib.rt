@@ -1,9 +1,0 @@
-// Whole lives of a book on examples.
-#![tactic(auto)]
-
-#[cfg(test)]
-mod common;
-#[cfg(test)]
-mod mixed;
-#[cfg(test)]
-mod small;

@@ -1,0 +1,4 @@
+// Whole lives of a book.
+mod mixed;
+mod small;
+mod steps;
