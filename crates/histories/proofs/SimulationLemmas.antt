@@ -51,8 +51,9 @@ module _ {P E K : Type 0} (R : Rules P E K) where
       go true false e = absurd (cc e)
       go false true e = absurd (cc e)
 
-  follows : (s : BookState P K) (c : Call E) (a : Answer) (s' : BookState P K) → a ≡ says R s c → s' ≡ after R s c → Simulates R s c a s'
-  follows s c a s' e f h w = (e ∙ says_answers s c h w, subst (λ t. Represents R t (history_after R (parameters s) h c)) (sym f) (after_represents s c h w))
+  -- so a book simulates every history that it represents
+  pub simulates : Simulates R
+  simulates s c h w = (says_answers s c h w, after_represents s c h w)
 
   -- no call changes the mark
   mark_after : (s : BookState P K) (c : Call E) → (after R s c).state.mark ≡ s.state.mark
@@ -79,7 +80,6 @@ module _ {P E K : Type 0} (R : Rules P E K) where
   call_step s c a s' e f = record {
     value = e;
     after = f;
-    represents = follows s c a s' e f;
     mark = ap (λ (t : BookState P K). t.state.mark) f ∙ mark_after s c;
     depth = ap (λ (t : BookState P K). length t.state.groups) f ∙ depth_so s c (accepted (says R s c)) ∙ ap (λ q. depth_after c q (length s.state.groups)) (sym (ap accepted e));
   }

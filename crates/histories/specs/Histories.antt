@@ -34,19 +34,18 @@ module _ {P E K : Type 0} (R : Rules P E K) where
   abbrev pub history_after : Parameters K → History E → Call E → History E
   history_after t h c = cond (accepted (answers t h c)) (lists_after h c) h
 
-  -- A book shows a history: same rows, same depth, and what the trail would undo.
+  -- A book represents a history: same rows, same depth, and what the trail would undo.
   abbrev pub Represents : BookState P K → History E → Type 0
   Represents s h = RepresentsFrom R.job_of R.next_row (replicate (length s.state.rows) R.idle) s.state h
 
-  -- Whatever history the book shows before a call: it answers as that history, and shows that history fed the call after.
-  abbrev pub Simulates : BookState P K → Call E → Answer → BookState P K → Type 0
-  Simulates s c a s' = (h : History E) → Represents s h → (a ≡ answers (parameters s) h c) × Represents s' (history_after (parameters s) h c)
+  -- Whatever history a book represents before a call, it answers as that history, and then represents that history fed the call.
+  abbrev pub Simulates : Type 0
+  Simulates = (s : BookState P K) (c : Call E) (h : History E) → Represents s h → (says R s c ≡ answers (parameters s) h c) × Represents (after R s c) (history_after (parameters s) h c)
 
-  -- A call made on a book, with its answer: it answers and changes the book by the rules, and so follows its history. What tickets
-  -- go by stands by itself: the mark, which stays, and how many groups are open.
+  -- A call made on a book, with its answer: it answers and changes the book by the rules. What tickets go by stands by itself: the mark,
+  -- which stays, and how many groups are open.
   pub record CallStep (s : BookState P K) (c : Call E) (a : Answer) (s' : BookState P K) : Type 0 where
     pub value : a ≡ says R s c
     pub after : s' ≡ after R s c
-    pub represents : Simulates s c a s'
     pub mark : s'.state.mark ≡ s.state.mark
     pub depth : length s'.state.groups ≡ depth_after c (accepted a) (length s.state.groups)

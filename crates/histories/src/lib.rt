@@ -1,2 +1,10 @@
 // What calls on groups of rows answer and do, and the history of those that still count, for any kind of row and of edit.
 #![tactic(auto)]
+
+ghost use Rattle.histories.specs.Rules.{Rules};
+ghost use Rattle.histories.specs.Histories.{Simulates};
+
+/// Whatever kind of book it is, of rows P and edits E: each call does to a book what it does to every history that the book represents.
+pub fn books_simulate_histories<P, E, K>()
+    ensures { (R : Rules P E K) → Simulates R }
+{}
