@@ -1,5 +1,5 @@
 -- What marking a job keeps.
-use Rattle.std.proofs.Common.{◌≡◌, ℕ, ◌+◌, ◌-◌, ◌<◌, ◌≤◌, Bool, true, false, cond, not, ◌&&◌, ◌||◌, eqb, leb, ◌⊎◌, List, [], ◌∷◌, ◌++◌, length, get_or, set, replicate, sym, refl, ap, ◌∙◌, subst, inl, inr, arith}
+use Rattle.std.proofs.Common.{◌≡◌, ℕ, ◌+◌, ◌-◌, ◌<◌, ◌≤◌, Bool, true, false, cond, not, ◌&&◌, eqb, leb, ◌⊎◌, List, [], ◌∷◌, ◌++◌, length, get_or, set, replicate, sym, refl, ap, ◌∙◌, subst, inl, inr, arith}
 use Rattle.std.proofs.lemmas.List.{length-set, length_push, length-replicate, get_or-set_same, get_or-set_other, get_or_past, get_or-replicate}
 use Rattle.std.proofs.lemmas.List.Sums.{count_by-le-length, sum_by-set}
 use Rattle.std.proofs.lemmas.Bool.{or_cases, cases_eq, cases_lt, cases_Bool, true≢false, eq-eqb, ne_eqb, eqb-true, and_parts, and_right}
@@ -11,6 +11,7 @@ use Rattle.rows.specs.Law.{rising}
 use Rattle.rows.proofs.Laws.{fits_shaped}
 use Rattle.tables.proofs.Grants.{closed_at}
 use Rattle.tables.proofs.Laws.{lawful_at, who_waits_is_a_job}
+use Rattle.tables.proofs.TargetLemmas.{among_push}
 use Rattle.tables.proofs.WaiterLemmas.{among_rising_is_not_below}
 use Rattle.reduction.specs.Marks.{loose, stuck, is_loose}
 use Rattle.tables.specs.Tables.{jobs_max, lawful}
@@ -38,10 +39,6 @@ count_less S S' (t ∷ ts) e = go (S t) (S' t) (e t (let q = eq-eqb t t refl in 
 pub count_none : (S : ℕ → Bool) (ts : List ℕ) → ((u : ℕ) → S u ≡ false) → count S ts ≡ 0
 count_none S [] e = refl
 count_none S (t ∷ ts) e = let rest = count_none S ts e in rw (e t) (omega arith)
-
-pub among_push : (u x : ℕ) (xs : List ℕ) → among u (xs ++ x ∷ []) ≡ (among u xs || eqb x u)
-among_push u x [] = grind (arith, nat_tests)
-among_push u x (y ∷ ys) = let rest = among_push u x ys in rw rest (grind (arith, nat_tests))
 
 -- of rising numbers, one more is counted
 pub count_one_more : (S S' : ℕ → Bool) (low : ℕ) (ts : List ℕ) (j : ℕ) → rising low ts ≡ true → among j ts ≡ true → S j ≡ false → S' j ≡ true

@@ -10,6 +10,7 @@ use Rattle.std.proofs.lemmas.Nat.Bits.{bit_at-zero}
 use Rattle.std.proofs.Common.{ltb, zero, suc}
 use Rattle.rows.specs.Waiting.{Waiting, idle, at, among}
 use Rattle.tables.specs.Tables.{IsTable}
+use Rattle.tables.proofs.TargetLemmas.{among_push}
 use Rattle.tables.specs.BitMatrix.{is_marked, MarkedToo, RowMarked, MarksWaits}
 
 -- Nothing more is true.
@@ -87,13 +88,6 @@ none_is_marked_at_first {waiter = waiter} {was = was} e = record {
   counted = refl;
   marked = λ t v l. or_none _ (is_marked was t v) (eqb v waiter && false) (and_right (eqb v waiter) false refl) refl;
 }
-
-among_push : (t x : ℕ) (front : List ℕ) → among t (front ++ x ∷ []) ≡ (among t front || eqb x t)
-among_push t x [] = sym (or_none (eqb x t) (eqb x t) false refl refl)
-among_push t x (y ∷ front) = ap (λ (b : Bool). eqb y t || b) (among_push t x front) ∙ or_grouped (eqb y t) (among t front) (eqb x t)
-  where
-    or_grouped : (a b c : Bool) → (a || (b || c)) ≡ ((a || b) || c)
-    or_grouped a b c = elim a as (λ (a : Bool). (a || (b || c)) ≡ ((a || b) || c)) [ true ↦ refl | false ↦ refl ]
 
 eqb_turned : (a b : ℕ) → eqb a b ≡ eqb b a
 eqb_turned a b =

@@ -1,8 +1,9 @@
 -- Looking through targets, place by place.
-use Rattle.std.proofs.Common.{◌≡◌, ℕ, zero, suc, ◌+◌, ◌-◌, ◌<◌, ◌≤◌, true, eqb, List, [], ◌∷◌, length, get_or, take, drop, slice_range, Some, None, Option, MatchOption, sym, ap, ◌∙◌, add-one, arith}
+use Rattle.std.proofs.Common.{◌≡◌, ℕ, zero, suc, ◌+◌, ◌-◌, ◌<◌, ◌≤◌, true, ◌||◌, eqb, List, [], ◌∷◌, ◌++◌, length, get_or, take, drop, slice_range, Some, None, Option, MatchOption, sym, ap, ◌∙◌, add-one, arith}
 use Rattle.std.proofs.lemmas.List.{at_drop_all, drop_all, drop_more, take_all}
 use Rattle.std.proofs.lemmas.Option.{slice_get_past, slice_get-get_or}
 use Rattle.std.proofs.lemmas.Bool.{or_right, eq-eqb}
+use Rattle.std.proofs.lemmas.Bool.Decides.{nat_tests}
 use Rattle.std.specs.List.{filter_map, range_with_len}
 use Rattle.std.specs.declared.ops.Range.{Range}
 use Rattle.rows.proofs.Reading.{target_at_is_get}
@@ -56,3 +57,8 @@ target_walk_steps ts places later place None h e =
 target_walk_steps ts places later place (Some t) h e =
     let l : places.start < places.end = omega (arith, h.1.0) in
     rw (h.0, h.1.2) (targets_left_at_a_target ts places.start places.end t l (rw h.1.1 at (sym e)))
+
+-- A target behind others.
+pub among_push : (t x : ℕ) (front : List ℕ) → among t (front ++ x ∷ []) ≡ (among t front || eqb x t)
+among_push t x [] = grind (arith, nat_tests)
+among_push t x (y ∷ front) = let rest = among_push t x front in rw rest (grind (arith, nat_tests))
