@@ -1,4 +1,6 @@
-// A row of the book: how many of its targets a job still needs, and the targets.
+//! A row of the book: how many of its targets a job still needs, and the targets.
+//!
+//! A [`PlainRow`] is how a row is stored; a [`Row`] is one that obeys the row law, which its type carries.
 #![tactic(auto)]
 
 mod law;

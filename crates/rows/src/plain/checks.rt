@@ -9,7 +9,7 @@ use crate::parts::{counts_fit, places_fit, rises};
 use crate::plain::{LawBroken, PlainRow, Row, TARGETS_MAX};
 
 impl PlainRow {
-    /// The stored row of an active job.
+    /// The stored row of an active job: need and count 0, and 0 at each place. The default is the same.
     pub fn idle() -> PlainRow
         ensures { result ≡ stored_as idle }
     {
@@ -21,14 +21,30 @@ impl PlainRow {
     }
 }
 
+impl Default for PlainRow {
+    ghost is_default = { λ p. p ≡ stored_as idle };
+
+    fn default() -> PlainRow {
+        PlainRow::idle()
+    }
+}
+
 impl Row {
-    /// The row of an active job.
+    /// The row of an active job, with need 0 and no targets. The default is the same.
     pub fn idle() -> Row
         ensures { waiting_of result ≡ idle }
     {
         Row {
             plain: PlainRow::idle(),
         }
+    }
+}
+
+impl Default for Row {
+    ghost is_default = { λ r. waiting_of r ≡ idle };
+
+    fn default() -> Row {
+        Row::idle()
     }
 }
 

@@ -16,7 +16,7 @@ impl PlainRow {
             .unwrap_or(&self.targets)
     }
 
-    /// Whether the row waits for a job.
+    /// Whether the row waits for a job: whether the job is among the targets in use.
     pub fn waits_for(&self, job: u8) -> bool
         ensures { result ≡ among job (waiting self.now).targets }
     {

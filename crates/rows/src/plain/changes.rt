@@ -7,7 +7,9 @@ use crate::parts::{counts_fit, first_wrong, padded, place_of, without_place};
 use crate::plain::{PlainRow, Row, RowFault};
 
 impl Row {
-    /// The row of a request by `job`, one of `jobs` jobs.
+    /// The row of a request by `job`, one of `jobs` jobs: it needs `need` of the targets. Refused with the first that is wrong: the counts, where
+    /// the need is 0 or above the number of targets, or there are more than 16; or the first target that is no job, is the job itself, or is not
+    /// above the one before it, with its place.
     pub fn request(jobs: usize, job: usize, need: u8, targets: &[u8]) -> Result<Row, RowFault>
         ensures { seen result ≡ requested jobs job need targets.now }
     {
