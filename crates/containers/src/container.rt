@@ -4,9 +4,20 @@ ghost use Rattle.std.specs.List.Sorted.{IsPermutation};
 ghost use Rattle.containers.specs.Held.{Held, has_room, with_last};
 ghost use Rattle.containers.specs.Taken.{TookInto};
 
+use std::error::Error;
+use std::fmt;
+
 /// The refusal of a put: as many records are held as there is room for.
 #[derive(Clone, Copy, Drop, PartialEq, Eq, Debug)]
 pub struct Full;
+
+impl fmt::Display for Full {
+    fn fmt<W: fmt::Write>(&self, f: &mut fmt::Formatter<W>) -> fmt::Result {
+        f.write_str("the container is full")
+    }
+}
+
+impl Error for Full {}
 
 /// Records that are put, and come back one by one.
 pub trait Container<T: Copy> {
@@ -19,16 +30,16 @@ pub trait Container<T: Copy> {
     // Which record comes next, and what it leaves: the container's order.
     ghost gives: { Self → T → Self → Type 0 };
 
-    // How many records it holds.
+    /// How many records it holds, from 0 to its capacity.
     fn len(&self) -> usize
         ensures value { result ≡ length (held self.now).items }
         ensures bound { result ≤ (held self.now).capacity };
 
-    // How many records it can hold.
+    /// How many records it can hold.
     fn capacity(&self) -> usize
         ensures { result ≡ (held self.now).capacity };
 
-    // Puts the record last; a full container refuses it and stays as it is.
+    /// Puts the record last; a full container refuses it with [`Full`], and stays as it is.
     fn put(&mut self, element: T) -> Result<(), Full>
         ensures test { is_ok result ≡ has_room (held self.old) }
         ensures after { held self.new ≡ (if is_ok result then with_last (held self.old) element else held self.old) }

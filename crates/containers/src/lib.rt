@@ -1,4 +1,6 @@
-// Containers over memory that their user lends, for records of any type that can be copied.
+//! Containers over memory that their user lends, for records of any type that can be copied.
+//!
+//! [`Container`] says what all of them do; a [`Queue`] gives the oldest record first, and a [`Stack`] the newest.
 #![tactic(auto)]
 
 mod container;

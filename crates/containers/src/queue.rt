@@ -7,6 +7,8 @@ ghost use Rattle.containers.specs.Orders.{gives_oldest, first_loses_none};
 use crate::container::{Container, Full};
 use std::marker::Model;
 
+/// A queue over lent cells, which gives the record put first.
+///
 /// The cells are a ring: the oldest record is in cell `head`, the `len` records follow it round the end of the cells, and the next one
 /// goes into cell `tail`. The cells are lent, since there is no heap.
 #[derive(Drop)]

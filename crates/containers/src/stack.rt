@@ -8,6 +8,8 @@ ghost use Rattle.containers.specs.Orders.{gives_newest, last_loses_none};
 use crate::container::{Container, Full};
 use std::marker::Model;
 
+/// A stack over lent cells, which gives the record put last.
+///
 /// The records are the first `len` cells, the newest last. The cells are lent, since there is no heap; so their number in use
 /// lies beside them.
 #[derive(Drop)]
