@@ -10,7 +10,7 @@ use arrayvec::ArrayVec;
 use containers::{Container, Stack};
 
 impl<'a, P: Copy> Groups<'a, P> {
-    /// Every row is `row`, and no group is open. The undo records will lie in the lent memory.
+    /// Every row is `row`, and no group is open. The undo records will lie in the lent memory: as many as it has places for, at most 1,024.
     pub fn new(row: P, mark: u16, memory: &'a mut [UndoRecord<P>]) -> Groups<'a, P>
         ensures { result ≡ fresh row_count row mark (length memory.old) }
     {
@@ -31,14 +31,14 @@ impl<'a, P: Copy> Groups<'a, P> {
         rows[job as usize]
     }
 
-    /// All rows.
+    /// All rows, by the number of their job.
     pub fn rows(&self) -> &[P; ROWS]
         ensures { result.now ≡ self.now.rows }
     {
         &self.rows
     }
 
-    /// How many groups are open.
+    /// How many groups are open, from 0 to 8.
     pub fn depth(&self) -> usize
         ensures value { result ≡ length self.now.groups }
         ensures bound { result ≤ depth_max }
@@ -46,8 +46,8 @@ impl<'a, P: Copy> Groups<'a, P> {
         self.starts.len()
     }
 
-    /// Writes the row of a job, and inside a group first what stands there to the trail; refused, with nothing changed, if
-    /// that is full.
+    /// Writes the row of a job, and inside a group first what stands there to the trail; refused with [`TrailFull`], and nothing changed,
+    /// if that is full.
     pub fn write(&mut self, job: u8, row: P) -> Result<(), TrailFull>
         ensures value { is_ok result ≡ not (full self.old.trail_room (summary self.old)) }
         ensures after { self.new ≡ (if is_ok result then written self.old job row else self.old) }
