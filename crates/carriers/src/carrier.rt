@@ -5,6 +5,8 @@ ghost use Rattle.carriers.specs.Meaning.{Carried, Put, Took};
 
 use crate::message::Message;
 use containers::Full;
+use std::error::Error;
+use std::fmt;
 
 const CARRIER_FULL: u8 = 12;
 
@@ -21,6 +23,14 @@ impl CarrierFull {
     }
 }
 
+impl fmt::Display for CarrierFull {
+    fn fmt<W: fmt::Write>(&self, f: &mut fmt::Formatter<W>) -> fmt::Result {
+        f.write_str("the carrier is full")
+    }
+}
+
+impl Error for CarrierFull {}
+
 // A full container makes a full carrier.
 impl From<Full> for CarrierFull {
     fn from(_full: Full) -> CarrierFull {
@@ -34,24 +44,24 @@ pub trait Carrier {
     // The messages that wait, the capacity, and how many were handed out, modulo 2^32.
     ghost carried: { Self → Carried };
 
-    /// Adds the message to those that wait; a full carrier refuses it, with 12, and stays as it is.
+    /// Adds the message to those that wait; a full carrier refuses it with [`CarrierFull`], number 12, and stays as it is.
     fn put(&mut self, message: Message) -> Result<(), CarrierFull>
         ensures put { Put (carried self.old) (carried self.new) message (refusal_number result) };
 
-    // Hands out one of the waiting messages; where none waits there is none, and the carrier stays as it is.
+    /// Hands out one of the waiting messages; where none waits there is none, and the carrier stays as it is.
     fn take(&mut self) -> Option<Message>
         ensures took { Took (carried self.old) (carried self.new) result };
 
-    // How many messages wait.
+    /// How many messages wait, from 0 to the capacity.
     fn waiting(&self) -> usize
         ensures value { result ≡ length (carried self.now).waiting }
         ensures bound { result ≤ (carried self.now).capacity };
 
-    // How many messages can wait.
+    /// How many messages can wait.
     fn capacity(&self) -> usize
         ensures { result ≡ (carried self.now).capacity };
 
-    // How many messages it has handed out, modulo 2^32.
+    /// How many messages it has handed out, modulo 2^32.
     fn handed_out(&self) -> u32
         ensures { result ≡ (carried self.now).handed };
 }

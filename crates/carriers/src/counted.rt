@@ -6,11 +6,11 @@ ghost use Rattle.carriers.specs.Meaning.{Put, Took};
 ghost use Rattle.carriers.specs.CountedCarriers.{carried_from, carried_by, held_carried, container, picker_messages, picks_left, new_carrier};
 
 use crate::carrier::{Carrier, CarrierFull};
-use crate::message::{Kind, Message, Wait};
+use crate::message::Message;
 use crate::picked::Picked;
 use containers::{Container, Queue, Stack};
 
-/// The messages that wait, and how many were handed out, modulo 2^32.
+/// A carrier over a container: the messages that wait, and how many were handed out, modulo 2^32.
 #[derive(Drop)]
 pub struct Counted<C> {
     messages: C,
@@ -25,7 +25,7 @@ pub type QueueCarrier<'a> = Counted<Queue<'a, Message>>;
 /// The carrier that hands out the newest message.
 pub type StackCarrier<'a> = Counted<Stack<'a, Message>>;
 
-/// The carrier that hands out the messages in an order that its user picks.
+/// The carrier that hands out the messages in an order that its user picks; once the picks are used up, the oldest message.
 pub type Picker<'a, 'p> = Counted<Picked<'a, 'p>>;
 
 impl<C: Container<Message>> Counted<C> {
@@ -37,13 +37,7 @@ impl<C: Container<Message>> Counted<C> {
         Counted {
             messages,
             handed: 0,
-            blank: Message {
-                wait: Wait {
-                    waiter: 0,
-                    target: 0,
-                },
-                kind: Kind::Notify,
-            },
+            blank: Message::default(),
         }
     }
 }

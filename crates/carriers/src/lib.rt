@@ -1,4 +1,7 @@
-// Carriers of messages: an interface with a meaning that leaves the order of delivery open, and three orders that keep it.
+//! Carriers of messages: an interface with a meaning that leaves the order of delivery open, and three orders that keep it.
+//!
+//! [`Carrier`] says what all of them do. A [`QueueCarrier`] hands out the oldest message, a [`StackCarrier`] the newest, and a
+//! [`Picker`] the one that its user picks.
 #![tactic(auto)]
 
 mod carrier;
