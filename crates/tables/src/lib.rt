@@ -1,4 +1,6 @@
-// Tables of waits, read only through what they tell; closed sets and lawful grants.
+//! Tables of waits, read only through what they tell; closed sets and lawful grants.
+//!
+//! A [`Table`] tells what each job waits for, a [`TwoWayTable`] also who waits for a job; [`Indexed`] makes the second of the first.
 #![tactic(auto)]
 
 mod freeing;

@@ -10,32 +10,32 @@ use rows::TARGETS_MAX;
 /// How many jobs a table has at most.
 pub const JOBS_MAX: usize = 256;
 
-/// How many waits a table has at most.
+/// How many waits a table has at most: 4,096.
 pub const WAITS_MAX: usize = JOBS_MAX * TARGETS_MAX;
 
 /// Jobs, and what each waits for. Beyond the last job every row is idle, and past the last place there is none.
 pub trait Table {
     ghost rows: { Self → List Waiting };
 
-    // How many jobs there are. Their rows obey the row law.
+    /// How many jobs there are, from 0 to 256. Their rows obey the row law.
     fn jobs(&self) -> usize
         ensures value { result ≡ length (rows self.now) }
         ensures bound { result ≤ jobs_max }
         ensures lawful { lawful (rows self.now) ≡ true };
 
-    // How many of its targets a job still needs.
+    /// How many of its targets a job still needs, from 0, where it is active, to 16; beyond the last job 0.
     fn need(&self, job: usize) -> u8
         ensures { result ≡ (at (rows self.now) job).need };
 
-    // How many jobs a job waits for.
+    /// How many jobs a job waits for, from 0 to 16; beyond the last job 0.
     fn target_count(&self, job: usize) -> usize
         ensures { result ≡ length (at (rows self.now) job).targets };
 
-    // The target at a place in a job's row.
+    /// The target at a place in a job's row, from 0 on; past the last place, and beyond the last job, there is none.
     fn target(&self, job: usize, place: usize) -> Option<u8>
         ensures { result ≡ target_at (at (rows self.now) job).targets place };
 
-    // Whether a job waits for another.
+    /// Whether a job waits for another; beyond the last job none does.
     fn waits_for(&self, waiter: usize, job: usize) -> bool
         ensures { result ≡ among job (at (rows self.now) waiter).targets }
     {
@@ -45,7 +45,7 @@ pub trait Table {
             .any(|target| target as usize == job)
     }
 
-    // How many waits there are: each target of each row is one.
+    /// How many waits there are, from 0 to 4,096: each target of each row is one.
     fn wait_count(&self) -> usize
         ensures value { result ≡ waits (rows self.now) }
         ensures bound { result ≤ waits_max }
@@ -58,7 +58,7 @@ pub trait Table {
         waits
     }
 
-    // The targets of a job, one after the other.
+    /// The targets of a job, one after the other, by rising number; beyond the last job there are none.
     final fn targets(&self, job: usize) -> Targets<'_, Self>
     where
         Self: Sized,
@@ -74,14 +74,14 @@ pub trait Table {
 
 /// A table that is read against the waits too.
 pub trait TwoWayTable: Table {
-    // The first job not below `from` that waits for a job. Going on from each answer, one pass finds every waiter.
+    /// The first job not below `from` that waits for a job, or none. Going on from each answer, one pass finds every waiter.
     fn next_waiter(&self, job: usize, from: usize) -> Option<usize>
         ensures { result ≡ first_from from (waiters (Self.Table.rows self.now) job) }
     {
         (from..self.jobs()).find(|waiter| self.waits_for(*waiter, job))
     }
 
-    // The waiter of a job at a place, the waiters taken by rising number.
+    /// The waiter of a job at a place, from 0 on, the waiters taken by rising number; past the last place there is none.
     fn waiter(&self, job: usize, place: usize) -> Option<usize>
         ensures { result ≡ target_at (waiters (Self.Table.rows self.now) job) place }
     {
@@ -96,7 +96,7 @@ pub trait TwoWayTable: Table {
         Some(waiter)
     }
 
-    // The waiters of a job, by rising number.
+    /// The waiters of a job, one after the other, by rising number.
     final fn waiters(&self, job: usize) -> Waiters<'_, Self>
     where
         Self: Sized,
