@@ -9,7 +9,7 @@ ghost use Rattle.chart.specs.Check.{row_right};
 
 use crate::bytes::RowBytes;
 
-/// The rows of the jobs, in lent bytes.
+/// A two-way table read from lent bytes, 18 for each job. It is copied by its place: no byte is copied.
 #[derive(Clone, Copy)]
 pub struct Chart<'a> {
     rows: &'a [RowBytes],

@@ -1,4 +1,6 @@
-// A chart: a table of waits read from bytes, where they lie, and the bytes of any table written.
+//! A chart: a table of waits read from bytes, where they lie, and the bytes of any table written.
+//!
+//! [`Chart::new`] reads bytes, [`Chart::check`] tells why bytes are no chart, and [`write_chart`] writes them.
 #![tactic(auto)]
 
 mod bytes;

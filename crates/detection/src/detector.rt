@@ -17,7 +17,12 @@ use tables::{INDEX_WORDS, Indexed, Table, TwoWayTable};
 pub const CAPACITY_PER_WAIT: usize = 2;
 
 /// Whether the initiator is stuck, told by a run of the exchange: no list of lawful grants makes it active. The records and the
-/// carrier are lent; where the detection is stopped, they stay as they are.
+/// carrier are lent: of the records the first are used, one for each job, whatever they hold, and the others stay as they are; after a run no
+/// message waits in the carrier.
+///
+/// Stopped by the first that holds, and then records and carrier stay as they are: the initiator is no job (`NoSuchJob`, 1), there are fewer
+/// records than jobs (`TooFewRecords`, 10), messages wait in the carrier (`MessagesWait`, 11), or it has room for fewer than two messages for
+/// each wait (`CarrierTooSmall`, 12).
 pub fn detect<T: TwoWayTable, C: Carrier>(
     table: &T,
     initiator: usize,

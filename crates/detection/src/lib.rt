@@ -1,4 +1,6 @@
-// The detection: whether a job is stuck or only slow, told by a run of the exchange over any table and any carrier.
+//! The detection: whether a job is stuck or only slow, told by a run of the exchange over any table and any carrier.
+//!
+//! [`detect`] makes one run, with lent records and a lent carrier, and answers a [`Detection`].
 #![tactic(auto)]
 
 mod detector;

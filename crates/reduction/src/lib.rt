@@ -1,4 +1,6 @@
-// The central reduction: which jobs of a table are stuck.
+//! The central reduction: which jobs of a table are stuck.
+//!
+//! [`reduce`] writes a byte for each job, [`LOOSE`] or [`HELD`].
 #![tactic(auto)]
 
 mod fault;

@@ -9,8 +9,9 @@ use crate::marking::Marking;
 use containers::{Container, Queue};
 use tables::{INDEX_WORDS, Indexed, JOBS_MAX, Table};
 
-/// Writes 0 for each loosened job of a table and 1 for each other into the first bytes; those behind stay as they are. Refused with 10
-/// where there are fewer bytes than jobs, and then all bytes stay as they are.
+/// Writes 0 for each loosened job of a table, which lawful grants can make active, and 1 for each other, which is stuck, into the first bytes,
+/// by the number of the job; those behind stay as they are. Refused with `TooShort`, 10, where there are fewer bytes than jobs, and then all
+/// bytes stay as they are.
 pub fn reduce<T: Table>(table: &T, bytes: &mut [u8]) -> Result<(), ReductionFault>
     ensures refused { refusal_number result ≡ stop (length (T.Table.rows table.now)) (length bytes.old) }
     ensures after { MatchResult result (λ _. Reduced (T.Table.rows table.now) bytes.old bytes.new) (λ _. bytes.new ≡ bytes.old) }
