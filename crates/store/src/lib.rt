@@ -1,4 +1,6 @@
-// The plain store: which job waits for which, with groups of edits that are kept or cancelled, by ticket ids: who owns a store decides who may.
+//! The plain store: which job waits for which, with groups of edits that are kept or cancelled.
+//!
+//! Groups of a [`Store`] end by ticket ids, which anyone can make: who owns a store decides who may.
 #![tactic(auto)]
 
 mod calls;

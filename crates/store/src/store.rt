@@ -6,7 +6,7 @@ use groups::Groups;
 use rows::PlainRow;
 use std::marker::Model;
 
-/// The rows of the first `jobs` jobs, under groups, which have 256 rows whatever the number of jobs: memory is fixed. A clause sees
+/// A plain store: the rows of the first `jobs` jobs, under groups, which have 256 rows whatever the number of jobs: memory is fixed. A clause sees
 /// a book: what its creation has fixed, the rows of its jobs, what each open group would undo, its mark, and the trail's size.
 #[derive(Drop)]
 pub struct Store<'a> {

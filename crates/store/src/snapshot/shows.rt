@@ -11,7 +11,7 @@ use rows::PlainRow;
 use tables::{Table, TwoWayTable};
 
 impl Snapshot {
-    /// What is seen of a book without jobs.
+    /// What is seen of a book without jobs. The default is the same.
     pub fn blank() -> Snapshot
         ensures { snapshot_view result ≡ record { rows = []; depth = 0 } }
     {
@@ -42,6 +42,14 @@ impl Snapshot {
         ensures { waiting_or_idle result ≡ at (snapshot_view self.now).rows job }
     {
         self.rows[..self.jobs].get(job)
+    }
+}
+
+impl Default for Snapshot {
+    ghost is_default = { λ s. snapshot_view s ≡ record { rows = []; depth = 0 } };
+
+    fn default() -> Snapshot {
+        Snapshot::blank()
     }
 }
 

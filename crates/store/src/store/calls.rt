@@ -33,7 +33,7 @@ fn created(jobs: usize) -> usize
 
 impl<'a> Store<'a> {
     /// A book in which every job is active. Its ticket ids will carry the mark, and what its groups would undo lies in the
-    /// lent memory. Where more than 256 jobs are asked for, it has none.
+    /// lent memory: as many undo records as this has places for, at most 1,024. Where more than 256 jobs are asked for, it has none.
     pub fn new(jobs: usize, mark: u16, memory: &'a mut [UndoRecord<PlainRow>]) -> Store<'a>
         ensures value { result ≡ new_book jobs mark (length memory.old) }
         ensures represents { Represents plain result begun }
@@ -45,6 +45,10 @@ impl<'a> Store<'a> {
     }
 
     /// A request: an active job waits for `need` of the targets, which are listed by rising number.
+    ///
+    /// Refused, with nothing changed, by the first that holds: there is no such job (`NoSuchJob`); it waits already (`Blocked`); the need is 0 or
+    /// above the number of targets, or there are more than 16 (`WrongCounts`); a target is no job, is the job itself, or is not above the one
+    /// before it (`WrongTarget`, with the place of the first such); a group is open, and the trail is full (`TrailFull`).
     pub fn request(&mut self, job: usize, need: u8, targets: &[u8]) -> Result<(), BookFault>
         ensures { CallStep plain self.old (edits (requests job need targets.now)) (edit_reply result) self.new }
     {
@@ -61,6 +65,9 @@ impl<'a> Store<'a> {
 
     /// A grant: the waiter no longer waits for the granter, which is active, and needs one less; when it needs none, its
     /// other waits go too.
+    ///
+    /// Refused, with nothing changed, by the first that holds: one of the two is no job (`NoSuchJob`); the granter waits itself
+    /// (`GranterBlocked`); the waiter does not wait for it (`NoSuchWait`); a group is open, and the trail is full (`TrailFull`).
     pub fn grant(&mut self, granter: usize, waiter: usize) -> Result<(), BookFault>
         ensures { CallStep plain self.old (edits (grants granter waiter)) (edit_reply result) self.new }
     {
@@ -88,7 +95,7 @@ impl<'a> Store<'a> {
         Ok(self.groups.write(job as u8, row.into())?)
     }
 
-    /// Opens a group inside the others, and answers its ticket id.
+    /// Opens a group inside the others, and answers its ticket id. Refused with `TooDeep`, and nothing changed, where eight are open.
     pub fn open(&mut self) -> Result<TicketId, BookFault>
         ensures { CallStep plain self.old opens (open_reply_by_id result) self.new }
     {
@@ -96,7 +103,7 @@ impl<'a> Store<'a> {
     }
 
     /// Ends the innermost group: its edits stay, undone only if the group around it is cancelled; or every row is as it was when the
-    /// group was opened. A ticket id that is not the innermost group's comes back.
+    /// group was opened. A ticket id that is not the innermost group's comes back with `NotInnermost`, and nothing changes.
     pub fn end(&mut self, ending: Ending, id: TicketId) -> Result<(), RefusedTicketId>
         ensures { CallStep plain self.old (ends ending id.mark id.depth) (end_reply_by_id result) self.new }
     {
@@ -121,7 +128,7 @@ impl<'a> Store<'a> {
         self.end(ending, innermost).unwrap();
     }
 
-    /// Makes an edit.
+    /// Makes an edit, by [`grant`](Store::grant) or [`request`](Store::request), with their refusals.
     pub fn edit(&mut self, edit: Edit<'_>) -> Result<(), BookFault>
         ensures { CallStep plain self.old (edits (edit_of edit.entry)) (edit_reply result) self.new }
     {

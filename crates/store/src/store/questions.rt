@@ -33,7 +33,7 @@ impl<'a> Store<'a> {
         }
     }
 
-    /// What is seen of the book.
+    /// What is seen of the book: its rows, and how many groups are open.
     pub fn snapshot(&self) -> Snapshot
         ensures { snapshot_view result ≡ view_of (book_machine plain) self.now }
     {
@@ -44,7 +44,7 @@ impl<'a> Store<'a> {
         }
     }
 
-    /// How many groups are open.
+    /// How many groups are open, from 0 to 8.
     pub fn depth(&self) -> usize
         ensures value { result ≡ length self.now.state.groups }
         ensures bound { result ≤ depth_max }
