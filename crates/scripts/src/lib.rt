@@ -1,4 +1,6 @@
-// Scripts: strings of bytes with calls and detections, which a store runs as a whole.
+//! Scripts: strings of bytes with calls and detections, which a store runs as a whole.
+//!
+//! [`run_script`] runs one, and answers a [`FinishedScript`] or a [`StoppedScript`].
 #![tactic(auto)]
 
 mod answer;
@@ -7,8 +9,8 @@ mod fault;
 mod place;
 mod reader;
 mod run;
+mod steps;
 mod tally;
-mod work;
 
 pub use fault::{FinishedScript, ScriptFault, StoppedScript};
 pub use run::{SCRIPT_MAX, run_script};

@@ -9,14 +9,14 @@ ghost use Rattle.store.specs.Plain.{plain};
 ghost use Rattle.histories.specs.Rules.{SameGroups};
 
 use crate::fault::{FinishedScript, ScriptFault, StoppedScript};
+use crate::steps::work;
 use crate::tally::{Position, Tally};
-use crate::work::work;
 use carriers::Carrier;
 use detection::RunRecord;
 use groups::Ending;
 use store::Store;
 
-/// How many bytes a script has at most.
+/// How many bytes a script has at most: 8,192.
 pub const SCRIPT_MAX: usize = 8192;
 
 /// Runs a script: its commands one after the other, to its end or to the first fault. Detections use the records and the carrier, and

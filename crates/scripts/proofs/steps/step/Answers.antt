@@ -1,6 +1,6 @@
 use Rattle.std.proofs.Common.{◌≡◌, ◌+◌, ◌-◌, arith}
 use Rattle.scripts.proofs.Reading.{no_command_step, stopped_step, carried_step}
-use Rattle.scripts.proofs.work.step.Goals as goal
+use Rattle.scripts.proofs.steps.step.Goals as goal
 
 pub returns-in_err-command-clause-steps : goal.returns-in_err-command-clause-steps
 returns-in_err-command-clause-steps g c =

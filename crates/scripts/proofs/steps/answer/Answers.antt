@@ -2,7 +2,7 @@ use Rattle.std.proofs.Common.{◌+◌, ◌≤◌, length, refl, sym, arith}
 use Rattle.scripts.specs.Commands.{detecting}
 use Rattle.scripts.specs.Scripts.{no_space, not_detected, answered}
 use Rattle.scripts.proofs.CommandLemmas.{fault_stops, bytes_behind}
-use Rattle.scripts.proofs.work.answer.Goals as goal
+use Rattle.scripts.proofs.steps.answer.Goals as goal
 
 pub returns-then-answers-tally-lt-DETECTION_BYTES-clause-done : goal.returns-then-answers-tally-lt-DETECTION_BYTES-clause-done
 returns-then-answers-tally-lt-DETECTION_BYTES-clause-done g c = (no_space (omega (arith, c.requires.written, c.if-answers-tally-lt-DETECTION_BYTES.true)) refl, refl)

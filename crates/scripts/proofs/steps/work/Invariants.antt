@@ -1,7 +1,7 @@
 use Rattle.std.proofs.Common.{◌≡◌, ◌+◌, ◌-◌, length}
 use Rattle.scripts.specs.RunningScripts.{progress_of, Within}
 use Rattle.scripts.proofs.Reading.{Underway}
-use Rattle.scripts.proofs.work.work.Given as goal
+use Rattle.scripts.proofs.steps.work.Given as goal
 
 abbrev pub invariant-loop-position : goal.invariant-loop-position
 invariant-loop-position g l =

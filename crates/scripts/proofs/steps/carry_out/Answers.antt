@@ -3,7 +3,7 @@ use Rattle.histories.specs.Calls.{edits, opens}
 use Rattle.store.specs.Replies.{edit_of}
 use Rattle.scripts.specs.Scripts.{opened, ended, not_edited, not_opened, no_group}
 use Rattle.scripts.proofs.CommandLemmas.{fault_stops, refused_far, edit_carried}
-use Rattle.scripts.proofs.work.carry_out.Goals as goal
+use Rattle.scripts.proofs.steps.carry_out.Goals as goal
 
 pub returns-in_err-open-in-Open-clause-done : goal.returns-in_err-open-in-Open-clause-done
 returns-in_err-open-in-Open-clause-done g c =

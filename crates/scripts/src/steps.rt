@@ -1,4 +1,4 @@
-// Carrying out the commands of a script.
+// The steps of a script: each reads a command and carries it out.
 ghost use Rattle.std.specs.Prelude.{◌≡◌, ◌≤◌, ◌<◌, ◌+◌, ◌-◌, length, drop, MatchResult};
 ghost use Rattle.std.specs.Result.{result_err};
 ghost use Rattle.scripts.specs.Commands.{detecting};

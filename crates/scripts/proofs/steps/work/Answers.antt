@@ -1,6 +1,6 @@
 use Rattle.std.proofs.Common.{◌∙◌, arith}
 use Rattle.scripts.proofs.Reading.{underway_next, underway_fault, underway_over}
-use Rattle.scripts.proofs.work.work.Goals as goal
+use Rattle.scripts.proofs.steps.work.Goals as goal
 
 pub returns-in_err-step-clause-reads : goal.returns-in_err-step-clause-reads
 returns-in_err-step-clause-reads g c =
