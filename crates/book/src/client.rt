@@ -26,7 +26,7 @@ use std::marker::Model;
 use store::{BookFault, RefusedTicketId, Snapshot, Store};
 use tables::{Table, TwoWayTable};
 
-/// A book, whose store is nobody else's.
+/// A book: which job waits for which, under groups that end by tickets. It is a two-way table of its jobs, at most 256.
 #[derive(Drop)]
 pub struct Book<'a> {
     store: Store<'a>,
@@ -42,7 +42,7 @@ impl<'a> Model for Book<'a> {
 
 impl<'a> Book<'a> {
     /// A book in which every job is active. Its tickets will carry the mark, and what its groups would undo lies in the
-    /// lent memory. Where more than 256 jobs are asked for, it has none.
+    /// lent memory: as many undo records as this has places for, at most 1,024. Where more than 256 jobs are asked for, it has none.
     pub fn new(jobs: usize, mark: u16, memory: &'a mut [UndoRecord<PlainRow>]) -> Book<'a>
         ensures value { result ≡ new_book jobs mark (length memory.old) }
         ensures represents { Represents plain result begun }
@@ -53,6 +53,10 @@ impl<'a> Book<'a> {
     }
 
     /// A request: an active job waits for `need` of the targets, which are listed by rising number.
+    ///
+    /// Refused, with nothing changed, by the first that holds: there is no such job (`NoSuchJob`); it waits already (`Blocked`); the need is 0 or
+    /// above the number of targets, or there are more than 16 (`WrongCounts`); a target is no job, is the job itself, or is not above the one
+    /// before it (`WrongTarget`, with the place of the first such); a group is open, and the trail is full (`TrailFull`).
     pub fn request(&mut self, job: usize, need: u8, targets: &[u8]) -> Result<(), BookFault>
         ensures { CallStep plain self.old (edits (requests job need targets.now)) (edit_reply result) self.new }
     {
@@ -61,13 +65,17 @@ impl<'a> Book<'a> {
 
     /// A grant: the waiter no longer waits for the granter, which is active, and needs one less; when it needs none, its
     /// other waits go too.
+    ///
+    /// Refused, with nothing changed, by the first that holds: one of the two is no job (`NoSuchJob`); the granter waits itself
+    /// (`GranterBlocked`); the waiter does not wait for it (`NoSuchWait`); a group is open, and the trail is full (`TrailFull`).
     pub fn grant(&mut self, granter: usize, waiter: usize) -> Result<(), BookFault>
         ensures { CallStep plain self.old (edits (grants granter waiter)) (edit_reply result) self.new }
     {
         self.store.grant(granter, waiter)
     }
 
-    /// Opens a group inside the others. Its ticket must be handed back, by keeping the group or by cancelling it.
+    /// Opens a group inside the others. Its ticket must be handed back, by keeping the group or by cancelling it. Refused with `TooDeep`, and
+    /// nothing changed, where eight are open.
     pub fn open(&mut self) -> Result<Ticket, BookFault>
         ensures called { CallStep plain self.old opens (open_reply result) self.new }
         ensures given { length self.old.state.groups < depth_max → IsOk result }
@@ -80,7 +88,7 @@ impl<'a> Book<'a> {
     }
 
     /// Ends the innermost group, and its edits stay, undone only if the group around it is cancelled. A ticket that is
-    /// not the innermost group's comes back.
+    /// not the innermost group's comes back with `NotInnermost`, and nothing changes.
     pub fn keep(&mut self, ticket: Ticket) -> Result<(), RefusedEnding>
         ensures called { CallStep plain self.old (keeps ticket.mark ticket.depth) (end_reply result) self.new }
         ensures taken { ticket.mark ≡ self.old.state.mark → ticket.depth ≡ length self.old.state.groups → 0 < ticket.depth → IsOk result }
@@ -89,7 +97,7 @@ impl<'a> Book<'a> {
     }
 
     /// Ends the innermost group, and every row is as it was when the group was opened. A ticket that is not the innermost
-    /// group's comes back.
+    /// group's comes back with `NotInnermost`, and nothing changes.
     pub fn cancel(&mut self, ticket: Ticket) -> Result<(), RefusedEnding>
         ensures called { CallStep plain self.old (cancels ticket.mark ticket.depth) (end_reply result) self.new }
         ensures taken { ticket.mark ≡ self.old.state.mark → ticket.depth ≡ length self.old.state.groups → 0 < ticket.depth → IsOk result }
@@ -110,14 +118,14 @@ impl<'a> Book<'a> {
         }
     }
 
-    /// What is seen of the book.
+    /// What is seen of the book: its rows, and how many groups are open.
     pub fn snapshot(&self) -> Snapshot
         ensures { snapshot_view result ≡ view_of (book_machine plain) self.now }
     {
         self.store.snapshot()
     }
 
-    /// How many groups are open.
+    /// How many groups are open, from 0 to 8.
     pub fn depth(&self) -> usize
         ensures value { result ≡ length self.now.state.groups }
         ensures bound { result ≤ depth_max }

@@ -1,4 +1,6 @@
-// The wait book, as its clients have it: a store whose groups end by tickets alone, with scripts, and whole lives.
+//! The wait book, as its clients have it: a store whose groups end by tickets alone, with scripts, and whole lives.
+//!
+//! A [`Book`] gives a [`Ticket`] for each group that it opens, and the group ends by that ticket. [`live`] lives a whole life by one call.
 #![tactic(auto)]
 
 mod client;

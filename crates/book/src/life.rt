@@ -1,8 +1,8 @@
 // Whole lives of a book, from its creation on.
 mod call;
+mod living;
 mod moment;
-mod whole;
 
 pub use call::{Answer, Call};
+pub use living::{Creation, TooFewMoments, live};
 pub use moment::Moment;
-pub use whole::{Creation, TooFewMoments, live};

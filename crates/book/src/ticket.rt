@@ -2,6 +2,7 @@
 ghost use Rattle.std.specs.Prelude.{◌≡◌};
 
 use groups::TicketId;
+use std::fmt;
 use std::marker::Model;
 use store::BookFault;
 
@@ -22,8 +23,18 @@ impl Model for Ticket {
 
 /// A refused ending, with its ticket, which is to be handed in where it fits. It can no more be let go than the ticket.
 pub struct RefusedEnding {
+    /// Why it is refused.
     pub fault: BookFault,
+
+    /// The ticket, which comes back.
     pub ticket: Ticket,
+}
+
+impl fmt::Display for RefusedEnding {
+    fn fmt<W: fmt::Write>(&self, f: &mut fmt::Formatter<W>) -> fmt::Result {
+        let fault = self.fault;
+        write!(f, "{fault}")
+    }
 }
 
 impl Ticket {
@@ -34,7 +45,7 @@ impl Ticket {
         self.mark
     }
 
-    /// How many groups were open when it was given, its own among them.
+    /// How many groups were open when it was given, its own among them: from 1 to 8.
     pub fn depth(&self) -> u8
         ensures { result ≡ self.now.depth }
     {

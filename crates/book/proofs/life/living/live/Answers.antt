@@ -5,7 +5,7 @@ use Rattle.histories.specs.Machines.{book_machine, view_of}
 use Rattle.book.proofs.LifeInvariant.{alive_first, alive_next, alive_lived, behind_all}
 use Rattle.book.proofs.GrantLemmas.{grants_are_allowed}
 use Rattle.book.proofs.Lives.{law_of_plain_books}
-use Rattle.book.proofs.life.whole.live.Goals as goal
+use Rattle.book.proofs.life.living.live.Goals as goal
 use Rattle.store.specs.Plain.{plain}
 
 pub returns-then-moments-calls-clause-law : goal.returns-then-moments-calls-clause-law

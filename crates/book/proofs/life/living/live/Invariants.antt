@@ -1,7 +1,7 @@
 use Rattle.std.proofs.Common.{◌≡◌, ◌≤◌, length, take, drop}
 use Rattle.scripts.specs.Workspace.{workspace}
 use Rattle.book.proofs.LifeInvariant.{Alive}
-use Rattle.book.proofs.life.whole.live.Given as goal
+use Rattle.book.proofs.life.living.live.Given as goal
 
 abbrev pub invariant-loop-place : goal.invariant-loop-place
 invariant-loop-place g l =

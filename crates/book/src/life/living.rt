@@ -17,19 +17,31 @@ use carriers::Carrier;
 use detection::{RunRecord, detect};
 use groups::{Ending, TicketId, UndoRecord};
 use rows::PlainRow;
+use std::error::Error;
+use std::fmt;
 use store::{BookFault, Edit, RefusedTicketId, Snapshot};
 
-/// What a life's creation takes besides the memory for the trail: the number of jobs, from 1 to 256, where any other number gives a book
-/// without jobs; and the mark of its tickets.
+/// What a life's creation takes besides the memory for the trail.
 #[derive(Clone, Copy, Drop, PartialEq, Eq, Debug)]
 pub struct Creation {
+    /// The number of jobs, from 1 to 256; any other number gives a book without jobs.
     pub jobs: usize,
+
+    /// The mark of the book's tickets.
     pub mark: u16,
 }
 
 /// The refusal of a life: there are fewer moments than calls.
 #[derive(Clone, Copy, Drop, PartialEq, Eq, Debug)]
 pub struct TooFewMoments;
+
+impl fmt::Display for TooFewMoments {
+    fn fmt<W: fmt::Write>(&self, f: &mut fmt::Formatter<W>) -> fmt::Result {
+        f.write_str("there are fewer moments than calls")
+    }
+}
+
+impl Error for TooFewMoments {}
 
 impl<'a> Book<'a> {
     // Opens a group, and takes its ticket apart.
