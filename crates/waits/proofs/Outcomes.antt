@@ -1,22 +1,22 @@
 -- What comes of a script on a new book.
 use Rattle.std.proofs.Common.{◌≡◌, true, List, ℕ, replicate, Result, Ok, Err, is_ok, OnOk, subst}
-use Rattle.groups.specs.History.{begun}
-use Rattle.carriers.specs.CountedCarriers.{new_carrier}
-use Rattle.carriers.specs.Meaning.{Carried}
-use Rattle.exchange.specs.Records.{blank}
-use Rattle.exchange.specs.declared.record.RunRecord.{RunRecord}
-use Rattle.book.specs.Rules.{parameters}
-use Rattle.book.specs.Histories.{Represents}
-use Rattle.book.specs.ScriptRuns.{ScriptStep}
-use Rattle.book.specs.Workspace.{workspace}
-use Rattle.book.specs.Scripts.{RunsScript}
-use Rattle.book.specs.Machines.{history_machine}
-use Rattle.book.specs.StoppedScript.{StoppedScript}
-use Rattle.book.specs.FinishedScript.{FinishedScript}
+use Rattle.wait_book.specs.History.{begun}
+use Rattle.wait_book.specs.Parts.{new_carrier}
+use Rattle.wait_book.specs.Meaning.{Carried}
+use Rattle.wait_book.specs.Records.{blank}
+use Rattle.wait_book.specs.RunRecord.{RunRecord}
+use Rattle.wait_book.specs.Rules.{parameters}
+use Rattle.wait_book.specs.Histories.{Represents}
+use Rattle.wait_book.specs.ScriptRuns.{ScriptStep}
+use Rattle.wait_book.specs.Workspace.{workspace}
+use Rattle.wait_book.specs.Scripts.{RunsScript}
+use Rattle.wait_book.specs.Subjects.{history_machine}
+use Rattle.wait_book.specs.StoppedScript.{StoppedScript}
+use Rattle.wait_book.specs.FinishedScript.{FinishedScript}
 use Rattle.waits.specs.Outcome.{ComesOut}
-use Rattle.book.specs.Plain.{plain}
-use Rattle.book.specs.Books.{PlainBook}
-use Rattle.book.specs.Creation.{new_book}
+use Rattle.wait_book.specs.Plain.{plain}
+use Rattle.wait_book.specs.Books.{PlainBook}
+use Rattle.wait_book.specs.Creation.{new_book}
 
 pub comes_out : {s s' : PlainBook} {was records : List RunRecord} {before carrier : Carried} {script bytes bytes' : List ℕ} {a : Result FinishedScript StoppedScript}
     → s ≡ new_book 256 7 1024 → Represents plain s begun → was ≡ replicate 256 blank → before ≡ new_carrier 8192 → ScriptStep s (workspace was before bytes) script a s' (workspace records carrier bytes')

@@ -1,23 +1,23 @@
 -- What comes of a script that the program runs.
 use Rattle.std.specs.Prelude.{ℕ, ◌*◌, List, replicate, Result}
-use Rattle.carriers.specs.CountedCarriers.{new_carrier}
-use Rattle.exchange.specs.Records.{blank}
-use Rattle.exchange.specs.declared.record.RunRecord.{RunRecord}
-use Rattle.carriers.specs.Meaning.{Carried}
-use Rattle.groups.specs.History.{History, begun}
-use Rattle.book.specs.Edits.{Edit}
-use Rattle.book.specs.Rules.{Parameters}
-use Rattle.book.specs.Scripts.{RunsScript}
-use Rattle.book.specs.Workspace.{workspace}
-use Rattle.book.specs.Machines.{history_machine}
-use Rattle.book.specs.StoppedScript.{StoppedScript}
-use Rattle.book.specs.FinishedScript.{FinishedScript}
-use Rattle.tables.specs.Tables.{jobs_max, waits_max}
-use Rattle.groups.specs.Limits.{trail_max}
-use Rattle.exchange.specs.Bounds.{capacity_per_wait}
-use Rattle.book.specs.Creation.{new_parameters}
-use Rattle.book.specs.Plain.{plain}
-use Rattle.book.specs.Books.{Fixed}
+use Rattle.wait_book.specs.Parts.{new_carrier}
+use Rattle.wait_book.specs.Records.{blank}
+use Rattle.wait_book.specs.RunRecord.{RunRecord}
+use Rattle.wait_book.specs.Meaning.{Carried}
+use Rattle.wait_book.specs.History.{History, begun}
+use Rattle.wait_book.specs.Edits.{Edit}
+use Rattle.wait_book.specs.Rules.{Parameters}
+use Rattle.wait_book.specs.Scripts.{RunsScript}
+use Rattle.wait_book.specs.Workspace.{workspace}
+use Rattle.wait_book.specs.Subjects.{history_machine}
+use Rattle.wait_book.specs.StoppedScript.{StoppedScript}
+use Rattle.wait_book.specs.FinishedScript.{FinishedScript}
+use Rattle.wait_book.specs.Tables.{jobs_max, waits_max}
+use Rattle.wait_book.specs.GroupLimits.{trail_max}
+use Rattle.wait_book.specs.Bounds.{capacity_per_wait}
+use Rattle.wait_book.specs.Creation.{new_parameters}
+use Rattle.wait_book.specs.Plain.{plain}
+use Rattle.wait_book.specs.Books.{Fixed}
 
 -- How many jobs the program's book has.
 abbrev pub program_jobs : ℕ

@@ -1,10 +1,10 @@
 -- What the program does with its input and its output.
 use Rattle.std.specs.Prelude.{◌≡◌, ℕ, ◌+◌, ◌*◌, ◌/◌, Bool, true, List, take, replicate, Option, Result, IfSome}
 use Rattle.std.specs.Io.KnownBytes.{Appends}
-use Rattle.book.specs.Limits.{script_max, detection_bytes}
-use Rattle.book.specs.ScriptRuns.{script_written}
-use Rattle.book.specs.StoppedScript.{StoppedScript}
-use Rattle.book.specs.FinishedScript.{FinishedScript}
+use Rattle.wait_book.specs.ScriptLimits.{script_max, detection_bytes}
+use Rattle.wait_book.specs.ScriptRuns.{script_written}
+use Rattle.wait_book.specs.StoppedScript.{StoppedScript}
+use Rattle.wait_book.specs.FinishedScript.{FinishedScript}
 use Rattle.waits.specs.Outcome.{ComesOut}
 
 -- How many bytes are read: one more than a script can have, so that one that is too long is seen to be so.

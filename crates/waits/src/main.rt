@@ -1,8 +1,7 @@
-// Runs a script from standard input on a book of its own, and writes what the script writes.
+//! Runs a script from standard input on a book of its own, and writes what the script writes.
 #![tactic(auto)]
 
 mod input;
-mod meaning;
 mod run;
 mod serve;
 #[cfg(test)]

@@ -4,9 +4,9 @@ ghost use Rattle.waits.specs.Service.{Serves};
 
 use crate::input::read_up_to;
 use crate::run::{PROGRAM_ANSWERS, run};
-use book::{Answer, FinishedScript, SCRIPT_MAX, StoppedScript};
 use std::io;
 use std::io::{Read, Write};
+use wait_book::{Answer, FinishedScript, SCRIPT_MAX, StoppedScript};
 
 // One byte more than a script can have, so that one that is too long is seen to be so.
 const INPUT_MAX: usize = SCRIPT_MAX + 1;
@@ -14,7 +14,10 @@ const INPUT_MAX: usize = SCRIPT_MAX + 1;
 /// What came of a script, and of writing its bytes.
 #[derive(Drop)]
 pub struct Served {
+    /// How the script ended.
     pub outcome: Result<FinishedScript, StoppedScript>,
+
+    /// Whether its bytes could be written.
     pub printed: io::Result<()>,
 }
 

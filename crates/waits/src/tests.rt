@@ -3,11 +3,10 @@ use crate::input::read_up_to;
 use crate::run::run;
 use crate::serve::serve;
 use crate::trouble::Trouble;
-use book::{BookFault, ScriptFault, StoppedScript};
-use detection::DetectionFault;
 use std::io;
 use std::io::{Cursor, ErrorKind, Read};
 use std::test::Fail;
+use wait_book::{BookFault, DetectionFault, ScriptFault, StoppedScript};
 
 fn stopped(fault: ScriptFault) -> Trouble {
     Trouble::Stopped(StoppedScript {

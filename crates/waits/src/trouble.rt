@@ -1,13 +1,18 @@
 // What can end the program early.
-use crate::meaning::Told;
-use book::StoppedScript;
+use std::error::Error;
 use std::{fmt, io};
+use wait_book::StoppedScript;
 
-/// The script can't be read, its bytes can't be written, or a fault has stopped it.
+/// What can end the program early.
 #[derive(Drop)]
 pub enum Trouble {
+    /// The script can't be read.
     Input(io::Error),
+
+    /// Its bytes can't be written.
     Output(io::Error),
+
+    /// A fault has stopped it.
     Stopped(StoppedScript),
 }
 
@@ -16,7 +21,7 @@ impl fmt::Display for Trouble {
         match self {
             Trouble::Input(error) => write!(f, "the script can't be read: {error}"),
             Trouble::Output(error) => write!(f, "the answers can't be written: {error}"),
-            Trouble::Stopped(stopped) => write!(f, "{}", Told(stopped)),
+            Trouble::Stopped(stopped) => write!(f, "{stopped}"),
         }
     }
 }
@@ -27,3 +32,5 @@ impl fmt::Debug for Trouble {
         write!(f, "{self}")
     }
 }
+
+impl Error for Trouble {}
