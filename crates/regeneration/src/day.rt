@@ -1,6 +1,6 @@
 // The day, call by call.
 use crate::names::Job;
-use book::{Call, Edit, Ending, TicketId};
+use wait_book::{Call, Edit, Ending, TicketId};
 
 /// The mark of the book's tickets.
 pub const MARK: u16 = 7;
@@ -11,8 +11,13 @@ pub const STEPS: usize = 30;
 /// A call, what is said after it, and whether the jobs that wait are listed then.
 #[derive(Clone, Copy)]
 pub struct Step<'d> {
+    /// The call.
     pub call: Call<'d>,
+
+    /// What is said after it; where it is empty, nothing.
     pub said: &'d str,
+
+    /// Whether the jobs that wait are listed then.
     pub lists: bool,
 }
 

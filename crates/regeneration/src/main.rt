@@ -1,4 +1,4 @@
-// A day of regeneration, lived from beginning to end by one call, over each of the carriers.
+//! A day of regeneration, lived from beginning to end by one call, over each of the carriers.
 #![tactic(auto)]
 
 mod day;
@@ -10,9 +10,10 @@ mod trouble;
 use crate::day::{MARK, STEPS, Step, day};
 use crate::names::JOBS;
 use crate::trouble::Trouble;
-use book::{Call, Creation, Moment, PlainRow, Snapshot, UndoRecord, live};
-use carriers::{Carrier, Kind, Message, Picker, QueueCarrier, StackCarrier, Wait};
-use detection::{CAPACITY_PER_WAIT, RunRecord};
+use wait_book::{
+    CAPACITY_PER_WAIT, Call, Carrier, Creation, Message, Moment, Picker, QueueCarrier, RunRecord,
+    Snapshot, StackCarrier, UndoRecord, live,
+};
 
 // How many undo records the groups of the day can hold.
 const TRAIL: usize = 64;
@@ -28,15 +29,6 @@ const ANSWERS: usize = 16;
 // What the picker picks; after these it hands out the oldest message.
 const PICKS: [u16; 8] = [3, 1, 4, 1, 5, 9, 2, 6];
 
-// What lies in a cell before a carrier is made of it.
-const UNUSED: Message = Message {
-    kind: Kind::Notify,
-    wait: Wait {
-        waiter: 0,
-        target: 0,
-    },
-};
-
 // A day that was lived: what was seen at first, and at each call, and what the scripts wrote.
 #[derive(Drop)]
 struct Lived {
@@ -47,13 +39,10 @@ struct Lived {
 
 // Lives the day over a carrier.
 fn live_over<C: Carrier>(calls: &[Call<'_>], carrier: &mut C) -> Result<Lived, Trouble> {
-    let mut trail = [UndoRecord {
-        job: 0,
-        row: PlainRow::idle(),
-    }; TRAIL];
-    let mut records = [RunRecord::blank(); JOBS];
+    let mut trail = [UndoRecord::default(); TRAIL];
+    let mut records = [RunRecord::default(); JOBS];
     let mut answers = [0; ANSWERS];
-    let mut moments = [Moment::blank(); STEPS];
+    let mut moments = [Moment::default(); STEPS];
     let first = live(
         Creation {
             jobs: JOBS,
@@ -87,7 +76,7 @@ fn tell_all(rt: &HostRuntime, day: &[Step<'static>; STEPS], lived: &Lived) -> Re
 }
 
 fn main(rt: HostRuntime) -> Result<(), Trouble> {
-    let mut cells = [UNUSED; CELLS];
+    let mut cells = [Message::default(); CELLS];
     let day = day();
     let calls = day.map(|step| step.call);
     let over_queue = live_over(&calls, &mut QueueCarrier::new(&mut cells))?;

@@ -45,6 +45,7 @@ impl Job {
         Job::Handle,
     ];
 
+    /// The name of the job.
     pub fn name(self) -> &'static str {
         match self {
             Job::LeftFace => "left face",

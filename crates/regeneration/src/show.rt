@@ -1,14 +1,12 @@
 // What is seen of the book, as lines of text, and the words for stuck and slow.
 use crate::names::{JOBS, name_of};
 use crate::trouble::Trouble;
-use book::{PlainRow, Snapshot};
-use chart::{CHART_MAX, Chart, write_chart};
-use reduction::{STUCK, reduce};
 use std::io;
+use wait_book::{CHART_MAX, Chart, PlainRow, STUCK, Snapshot, reduce, write_chart};
 
 // The row of a job; beyond the last job it is idle.
 fn row_of(seen: &Snapshot, job: usize) -> PlainRow {
-    seen.rows().get(job).copied().unwrap_or(PlainRow::idle())
+    seen.rows().get(job).copied().unwrap_or_default()
 }
 
 /// What a job needs, and for what it waits.

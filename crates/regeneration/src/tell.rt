@@ -3,12 +3,11 @@ use crate::day::Step;
 use crate::names::name_of;
 use crate::show::{row, waiting, word};
 use crate::trouble::Trouble;
-use book::{
-    Answer, BookFault, Call, Edit, Ending, FinishedScript, Moment, RefusedTicketId, Snapshot,
-    StoppedScript, TicketId,
-};
-use detection::{Detection, Verdict};
 use std::io;
+use wait_book::{
+    Answer, BookFault, Call, Detection, Edit, Ending, FinishedScript, Moment, RefusedTicketId,
+    Snapshot, StoppedScript, TicketId, Verdict,
+};
 
 // The row of a job before and after a call.
 fn change(rt: &HostRuntime, job: usize, before: &Snapshot, after: &Snapshot) -> io::Result<()> {

@@ -1,9 +1,7 @@
 // What can end the day early.
-use book::TooFewMoments;
-use detection::DetectionFault;
-use reduction::ReductionFault;
 use std::io;
 use thiserror::Error;
+use wait_book::{DetectionFault, ReductionFault, TooFewMoments};
 
 /// Nothing can be printed, the day has more calls than there are moments for, or the reduction or the detection refuses a call.
 #[derive(Debug, Drop, Error)]
