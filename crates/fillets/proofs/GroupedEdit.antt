@@ -2,12 +2,12 @@
 use Rattle.std.proofs.Common.{◌≡◌, ℕ, ◌+◌, Bool, true, false, cond, eqb, ltb, List, [], ◌∷◌, sym, refl, ap, ◌∙◌, append-nil, arith}
 use Rattle.std.proofs.lemmas.List.{set-set, set-get_or}
 use Rattle.std.proofs.lemmas.Bool.{eq-eqb, lt-ltb}
-use Rattle.groups.specs.State.{summary, innermost, with_undo_record, merged, undo_record, opened}
+use Rattle.wait_book.specs.State.{summary, innermost, with_undo_record, merged, undo_record, opened}
 use Rattle.groups.proofs.RollBackLemmas.{same_state}
-use Rattle.book.specs.Calls.{edits, opens, keeps, cancels}
-use Rattle.book.specs.Rules.{BookState, book_state, Rules, changed, says, after}
-use Rattle.book.specs.Histories.{CallStep}
-use Rattle.book.specs.Answers.{Answer, ticket, accepted, too_deep}
+use Rattle.wait_book.specs.Calls.{edits, opens, keeps, cancels}
+use Rattle.wait_book.specs.Rules.{BookState, book_state, Rules, changed, says, after}
+use Rattle.wait_book.specs.Histories.{CallStep}
+use Rattle.wait_book.specs.Answers.{Answer, ticket, accepted, too_deep}
 
 module _ {P E K : Type 0} (R : Rules P E K) where
   abbrev opening : BookState P K → BookState P K

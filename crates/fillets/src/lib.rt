@@ -1,4 +1,4 @@
-// Fillets, made in groups of their own: on every way out a group's ticket is handed back.
+//! Fillets, made in groups of their own: on every way out a group's ticket is handed back.
 #![tactic(auto)]
 
 mod early_return;

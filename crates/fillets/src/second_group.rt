@@ -3,10 +3,11 @@ ghost use Rattle.std.specs.Prelude.{◌≡◌, Some};
 ghost use Rattle.fillets.specs.Fillets.{waits_for_faces, fillet_reply, twice_comes, twice_leaves};
 
 use crate::fillet::{FACES, FilletFault};
-use book::Book;
+use wait_book::Book;
 
 /// Keeps a fillet's wait for its faces, and tries a second one in a group of its own, which is cancelled: the book is left
-/// with the first alone.
+/// with the first alone. Refused with the book's first refusal, of an opening or of a request; where it is one of the first fillet's, the book is
+/// as it was.
 pub fn round_twice(
     book: &mut Book,
     first: usize,

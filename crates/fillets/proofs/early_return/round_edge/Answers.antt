@@ -1,4 +1,4 @@
-use Rattle.book.specs.Plain.{plain}
+use Rattle.wait_book.specs.Plain.{plain}
 use Rattle.fillets.proofs.GroupedEdit.{cancel_leaves}
 use Rattle.fillets.proofs.early_return.round_edge.Goals as goal
 

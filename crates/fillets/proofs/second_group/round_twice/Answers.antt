@@ -1,5 +1,5 @@
 use Rattle.std.proofs.Common.{refl, ◌∙◌}
-use Rattle.book.specs.Plain.{plain}
+use Rattle.wait_book.specs.Plain.{plain}
 use Rattle.fillets.proofs.GroupedEdit.{cancel_leaves, keep_leaves, round_accepted}
 use Rattle.fillets.proofs.second_group.round_twice.Goals as goal
 
