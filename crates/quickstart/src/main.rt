@@ -1,6 +1,9 @@
 //! The wait book in a few lines: a group of edits, and whether a job is stuck.
 #![tactic(auto)]
 
+#[cfg(test)]
+mod tests;
+
 use wait_book::{Book, Message, QueueCarrier, RunRecord, UndoRecord, Verdict, detect};
 
 fn main(rt: HostRuntime) -> anyhow::Result<()> {
