@@ -16,11 +16,13 @@ pub type RowBytes = [u8; ROW_BYTES];
 /// How many bytes a chart has at most: those of 256 jobs.
 pub const CHART_MAX: usize = ROW_BYTES * JOBS_MAX;
 
-/// Where the parts of a job's bytes begin.
+/// Where the need stands in a job's bytes.
 pub const NEED: usize = 0;
 
+/// Where the number of targets stands.
 pub const COUNT: usize = 1;
 
+/// Where the targets begin.
 pub const TARGETS: usize = 2;
 
 /// The need that a job's bytes say.

@@ -10,7 +10,7 @@ ghost use Rattle.chart.specs.Check.{row_right};
 use crate::bytes::RowBytes;
 
 /// A two-way table read from lent bytes, 18 for each job. It is copied by its place: no byte is copied.
-#[derive(Clone, Copy)]
+#[derive(Clone, Copy, Debug)]
 pub struct Chart<'a> {
     rows: &'a [RowBytes],
     ghost few: { length rows.now ≤ jobs_max },

@@ -17,7 +17,7 @@ pub const DEPTH_MAX: usize = 8;
 pub const TRAIL_MAX: usize = 1024;
 
 /// What stood in the row of a job before a write. The trail's memory is lent as a slice of these; what is in it does not matter.
-#[derive(Clone, Copy)]
+#[derive(Clone, Copy, PartialEq, Eq, Debug)]
 pub struct UndoRecord<P> {
     /// The job whose row it was.
     pub job: u8,
