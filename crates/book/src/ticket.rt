@@ -8,6 +8,7 @@ use store::BookFault;
 
 /// The right to end a group: whoever has it must hand it back. It can be neither copied nor let go, and outside of this crate neither
 /// made nor taken apart.
+#[derive(Debug)]
 pub struct Ticket {
     mark: u16,
     depth: u8,
@@ -22,6 +23,7 @@ impl Model for Ticket {
 }
 
 /// A refused ending, with its ticket, which is to be handed in where it fits. It can no more be let go than the ticket.
+#[derive(Debug)]
 pub struct RefusedEnding {
     /// Why it is refused.
     pub fault: BookFault,

@@ -4,8 +4,13 @@ ghost use Rattle.scripts.specs.Reading.{place_left};
 
 /// Puts the reader back to where it stood first, unless the command that it has read since is accepted.
 pub struct PlaceGuard<'p> {
+    /// Where the reader stands.
     pub place: &'p mut usize,
+
+    /// Where it stood first.
     pub first: usize,
+
+    /// Whether the command is accepted.
     pub accepted: bool,
 }
 
