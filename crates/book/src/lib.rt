@@ -3,11 +3,11 @@
 //! A [`Book`] gives a [`Ticket`] for each group that it opens, and the group ends by that ticket. [`live`] lives a whole life by one call.
 #![tactic(auto)]
 
-mod client;
+mod book;
 mod life;
 mod ticket;
 
-pub use client::Book;
+pub use book::Book;
 pub use groups::{DEPTH_MAX, Ending, TRAIL_MAX, TicketId, UndoRecord};
 pub use life::{Answer, Call, Creation, Moment, TooFewMoments, live};
 pub use rows::{PlainRow, TARGETS_MAX};

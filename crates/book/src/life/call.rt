@@ -1,4 +1,6 @@
 // The calls of a life, and what they answer.
+ghost use Rattle.std.specs.Prelude.{◌≡◌};
+ghost use Rattle.book.specs.Moments.{written_by};
 
 use detection::{Detection, DetectionFault};
 use groups::{Ending, TicketId};
@@ -53,4 +55,17 @@ pub enum Answer {
 
     /// Of a script: how far it came, or what has stopped it.
     Ran(Result<FinishedScript, StoppedScript>),
+}
+
+impl Answer {
+    /// How many answer bytes the call has written; only a script writes any.
+    pub fn written(&self) -> usize
+        ensures { result ≡ written_by self.now }
+    {
+        match self {
+            Answer::Ran(Ok(finished)) => finished.written,
+            Answer::Ran(Err(stopped)) => stopped.written,
+            _ => 0,
+        }
+    }
 }

@@ -9,7 +9,7 @@ ghost use Rattle.histories.specs.Histories.{CallStep};
 ghost use Rattle.store.specs.Plain.{plain};
 ghost use Rattle.store.specs.Replies.{edit_reply, open_reply_by_id, end_reply_by_id, edit_of};
 
-use crate::client::Book;
+use crate::book::Book;
 use crate::life::call::{Answer, Call};
 use crate::life::moment::Moment;
 use crate::ticket::{RefusedEnding, Ticket};

@@ -1,7 +1,7 @@
 // What is given back of a life.
 ghost use Rattle.std.specs.Prelude.{◌≡◌, [], Ok};
 ghost use Rattle.book.specs.declared.life.call.Answer.TheVariants.{Edited};
-ghost use Rattle.book.specs.Moments.{answer_at, seen_at, written_by};
+ghost use Rattle.book.specs.Moments.{answer_at, seen_at};
 
 use crate::life::call::Answer;
 use store::Snapshot;
@@ -34,18 +34,5 @@ impl Default for Moment {
 
     fn default() -> Moment {
         Moment::blank()
-    }
-}
-
-impl Answer {
-    /// How many answer bytes the call has written; only a script writes any.
-    pub fn written(&self) -> usize
-        ensures { result ≡ written_by self.now }
-    {
-        match self {
-            Answer::Ran(Ok(finished)) => finished.written,
-            Answer::Ran(Err(stopped)) => stopped.written,
-            _ => 0,
-        }
     }
 }

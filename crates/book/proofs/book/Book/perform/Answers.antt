@@ -3,7 +3,7 @@ use Rattle.book.specs.Events.{RunsOnBook}
 use Rattle.store.specs.Plain.{plain}
 use Rattle.book.specs.Moments.{opening, ending, detecting, editing, running}
 use Rattle.lives.proofs.Lives.{call_does}
-use Rattle.book.proofs.client.Book.perform.Goals as goal
+use Rattle.book.proofs.book.Book.perform.Goals as goal
 
 pub returns-in-Open-clause-performed : goal.returns-in-Open-clause-performed
 returns-in-Open-clause-performed g c = rw c.in-Open.is (record { event = _; happens = opening; does = call_does plain RunsOnBook c.open_apart.ensures })
