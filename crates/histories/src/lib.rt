@@ -1,4 +1,6 @@
-// What calls on groups of rows answer and do, and the history of those that still count, for any kind of row and of edit.
+//! What calls on groups of rows answer and do, and the history of those that still count, for any kind of row and of edit.
+//!
+//! There is no code here: the definitions are in `specs/`, and what holds of them in `proofs/`.
 #![tactic(auto)]
 
 ghost use Rattle.histories.specs.Rules.{Rules};

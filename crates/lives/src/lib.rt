@@ -1,4 +1,6 @@
-// Whole lives of a book, of any kind, and the law that they obey.
+//! Whole lives of a book, of any kind, and the law that they obey.
+//!
+//! The one function, [`lives_follow`], has that law as its contract.
 #![tactic(auto)]
 
 ghost use Rattle.histories.specs.Rules.{Rules};

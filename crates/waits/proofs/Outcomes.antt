@@ -1,7 +1,7 @@
 -- What comes of a script on a new book.
 use Rattle.std.proofs.Common.{◌≡◌, true, List, ℕ, replicate, Result, Ok, Err, is_ok, OnOk, subst}
 use Rattle.wait_book.specs.History.{begun}
-use Rattle.wait_book.specs.Parts.{new_carrier}
+use Rattle.wait_book.specs.CountedCarriers.{new_carrier}
 use Rattle.wait_book.specs.Meaning.{Carried}
 use Rattle.wait_book.specs.Records.{blank}
 use Rattle.wait_book.specs.RunRecord.{RunRecord}
@@ -10,7 +10,7 @@ use Rattle.wait_book.specs.Histories.{Represents}
 use Rattle.wait_book.specs.ScriptRuns.{ScriptStep}
 use Rattle.wait_book.specs.Workspace.{workspace}
 use Rattle.wait_book.specs.Scripts.{RunsScript}
-use Rattle.wait_book.specs.Subjects.{history_machine}
+use Rattle.wait_book.specs.Machines.{history_machine}
 use Rattle.wait_book.specs.StoppedScript.{StoppedScript}
 use Rattle.wait_book.specs.FinishedScript.{FinishedScript}
 use Rattle.waits.specs.Outcome.{ComesOut}

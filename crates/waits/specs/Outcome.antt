@@ -1,6 +1,6 @@
 -- What comes of a script that the program runs.
 use Rattle.std.specs.Prelude.{ℕ, ◌*◌, List, replicate, Result}
-use Rattle.wait_book.specs.Parts.{new_carrier}
+use Rattle.wait_book.specs.CountedCarriers.{new_carrier}
 use Rattle.wait_book.specs.Records.{blank}
 use Rattle.wait_book.specs.RunRecord.{RunRecord}
 use Rattle.wait_book.specs.Meaning.{Carried}
@@ -9,7 +9,7 @@ use Rattle.wait_book.specs.Edits.{Edit}
 use Rattle.wait_book.specs.Rules.{Parameters}
 use Rattle.wait_book.specs.Scripts.{RunsScript}
 use Rattle.wait_book.specs.Workspace.{workspace}
-use Rattle.wait_book.specs.Subjects.{history_machine}
+use Rattle.wait_book.specs.Machines.{history_machine}
 use Rattle.wait_book.specs.StoppedScript.{StoppedScript}
 use Rattle.wait_book.specs.FinishedScript.{FinishedScript}
 use Rattle.wait_book.specs.Tables.{jobs_max, waits_max}
