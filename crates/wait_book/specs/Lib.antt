@@ -5,21 +5,21 @@
 pub use Rattle.rows.specs.Waiting
 pub use Rattle.rows.specs.Law as RowLaw
 pub use Rattle.rows.specs.Changes
-pub use Rattle.rows.specs.StoredRows as StoredRows
+pub use Rattle.rows.specs.StoredRows
 pub use Rattle.tables.specs.Tables
-pub use Rattle.tables.specs.ClosedSets as ClosedSets
+pub use Rattle.tables.specs.ClosedSets
 pub use Rattle.tables.specs.Grants
 pub use Rattle.tables.specs.Walks
 -- Groups, calls and histories.
 pub use Rattle.groups.specs.Limits as GroupLimits
 pub use Rattle.groups.specs.State
 pub use Rattle.groups.specs.History
-pub use Rattle.groups.specs.Representation as Representation
+pub use Rattle.groups.specs.Representation
 pub use Rattle.histories.specs.Answers
 pub use Rattle.histories.specs.Calls
 pub use Rattle.histories.specs.Rules
 pub use Rattle.histories.specs.Histories
-pub use Rattle.histories.specs.Machines as Machines
+pub use Rattle.histories.specs.Machines
 -- The plain book, its tickets and its scripts.
 pub use Rattle.store.specs.Books
 pub use Rattle.store.specs.Creation
@@ -28,7 +28,7 @@ pub use Rattle.store.specs.Edits
 pub use Rattle.store.specs.Faults as BookFaults
 pub use Rattle.store.specs.Plain
 pub use Rattle.store.specs.Snapshots
-pub use Rattle.store.specs.Replies as Replies
+pub use Rattle.store.specs.Replies
 pub use Rattle.book.specs.Tickets
 pub use Rattle.scripts.specs.Commands
 pub use Rattle.scripts.specs.Workspace
@@ -41,7 +41,7 @@ pub use Rattle.scripts.specs.Scripts
 pub use Rattle.carriers.specs.Faults as CarrierFaults
 pub use Rattle.carriers.specs.Meaning
 pub use Rattle.carriers.specs.Messages
-pub use Rattle.carriers.specs.CountedCarriers as CountedCarriers
+pub use Rattle.carriers.specs.CountedCarriers
 pub use Rattle.exchange.specs.Bounds
 pub use Rattle.exchange.specs.Records
 pub use Rattle.exchange.specs.Rules as ExchangeRules
