@@ -5,14 +5,12 @@ use Rattle.rows.specs.Waiting.{at, among}
 use Rattle.tables.specs.Grants.{Grant, IsAllowed}
 use Rattle.tables.proofs.Laws.{who_waits_is_a_job}
 use Rattle.groups.specs.State.{summary, full}
-use Rattle.histories.specs.Answers.{Answer, done}
-use Rattle.store.specs.EditAnswers.{refusal}
+use Rattle.histories.specs.Calls.{Answer, done}
+use Rattle.store.specs.Plain.{refusal, plain, PlainBook}
 use Rattle.histories.specs.Rules.{says}
 use Rattle.store.specs.declared.fault.BookFault.{BookFault}
 use Rattle.store.specs.declared.fault.BookFault.TheVariants.{NoSuchJob, TrailFull, GranterBlocked, NoSuchWait}
-use Rattle.book.specs.Law.{grant_call, GrantsAreAllowed}
-use Rattle.store.specs.Plain.{plain}
-use Rattle.store.specs.Books.{PlainBook}
+use Rattle.book.specs.Grants.{grant_call, GrantsAreAllowed}
 
 -- a check that is passed
 passed : (q : Bool) (f : BookFault) (a : Answer) → cond q (refusal f) a ≡ done → (q ≡ false) × (a ≡ done)

@@ -3,11 +3,11 @@ use Rattle.std.proofs.Common.{◌≡◌, ℕ, ◌+◌, ◌-◌, ◌≤◌, List,
 use Rattle.std.proofs.Math.Seq.{take-append-add, drop-append-add}
 use Rattle.std.proofs.lemmas.List.{length-take-le, length-append, length-drop, drop_all, map-append, take-append-drop}
 use borrow.Rule.Slice.PartMut.{put_mid, post_of}
-use Rattle.carriers.specs.Meaning.{Carried}
+use Rattle.carriers.specs.Carriers.{Carried}
 use Rattle.exchange.specs.declared.record.RunRecord.{RunRecord}
 use Rattle.lives.specs.Events.{begins, lives}
 use Rattle.store.specs.Creation.{new_book, new_parameters}
-use Rattle.book.specs.Events.{BookEvent, LifeOfBook}
+use Rattle.book.specs.Law.{BookEvent, LifeOfBook}
 use Rattle.scripts.specs.Workspace.{Workspace, workspace}
 use Rattle.book.specs.Moments.{answer_at, seen_at, written_by, AreEvents, nothing, then, IsLife}
 use Rattle.book.specs.LifeSteps.{IsStep}
@@ -18,8 +18,7 @@ use Rattle.book.specs.declared.life.call.Call.{Call}
 use Rattle.book.specs.declared.life.moment.Moment.{Moment}
 use Rattle.store.specs.declared.snapshot.Snapshot.{Snapshot}
 use Rattle.book.proofs.Lives.{law_of_plain_books}
-use Rattle.store.specs.Plain.{plain}
-use Rattle.store.specs.Books.{PlainBook}
+use Rattle.store.specs.Plain.{plain, PlainBook}
 
 -- bytes that are written behind others
 written_more : (w b : ℕ) (xs ys : List ℕ) → w ≤ length xs → take (w + b) (take w xs ++ ys) ≡ take w xs ++ take b ys

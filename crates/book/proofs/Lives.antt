@@ -1,7 +1,6 @@
 -- Whatever happens to a plain book happens to the history that it shows.
 use Rattle.lives.proofs.Lives.{HappensToHistory, law_of_lives}
-use Rattle.book.specs.Events.{RunsOnBook, RunsOnHistory}
-use Rattle.book.specs.Law.{LawOfPlainBooks}
+use Rattle.book.specs.Law.{RunsOnBook, RunsOnHistory, LawOfPlainBooks}
 use Rattle.store.specs.Plain.{plain}
 use Rattle.histories.specs.Machines.{history_machine}
 use Rattle.scripts.proofs.GroupCounts.{of_history_counts}

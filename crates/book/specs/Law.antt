@@ -1,31 +1,59 @@
--- The law of whole lives, of plain books.
-use Rattle.std.specs.Prelude.{◌≡◌, ◌↔◌, false}
-use Rattle.groups.specs.State.{summary, full}
-use Rattle.tables.specs.Grants.{Grant, IsAllowed, granted_rows}
-use Rattle.histories.specs.Answers.{done}
-use Rattle.histories.specs.Calls.{Call, edits}
-use Rattle.histories.specs.Rules.{says, changed}
+-- What happens to a plain book, scripts among it, and the law of its lives.
+use Rattle.std.specs.Prelude.{ℕ, List, Result}
+use Rattle.rows.specs.Waiting.{Waiting}
+use Rattle.groups.specs.History.{History}
+use Rattle.histories.specs.Rules.{Parameters}
+use Rattle.histories.specs.Machines.{Machine, View, book_machine, history_machine}
+use Rattle.lives.specs.Events.{Event, special, Does, Life}
 use Rattle.lives.specs.Law.{LawOfLives}
-use Rattle.store.specs.Edits.{Edit, grants}
-use Rattle.book.specs.Events.{RunsOnBook, RunsOnHistory}
-use Rattle.store.specs.Plain.{plain}
-use Rattle.store.specs.Books.{PlainBook}
+use Rattle.store.specs.Plain.{Edit, plain, PlainBook, Fixed}
+use Rattle.scripts.specs.Workspace.{Workspace}
+use Rattle.scripts.specs.ScriptCalls.{CountsAs}
+use Rattle.scripts.specs.Scripts.{RunsScript}
+use Rattle.scripts.specs.declared.fault.StoppedScript.{StoppedScript}
+use Rattle.scripts.specs.declared.fault.FinishedScript.{FinishedScript}
+
+-- A script and its answer, with what was lent to it, before and after.
+pub record ScriptRun : Type 0 where
+  pub script : List ℕ
+  pub before : Workspace
+  pub answer : Result FinishedScript StoppedScript
+  pub after : Workspace
+
+-- It happens to a machine by the rules of scripts.
+abbrev pub ScriptHappens : {X : Type 0} → Machine Waiting Edit X → X → ScriptRun → X → Type 0
+ScriptHappens S x r y = RunsScript S x r.before r.script r.answer y r.after
+
+-- To a book.
+abbrev pub RunsOnBook : PlainBook → ScriptRun → PlainBook → Type 0
+RunsOnBook = ScriptHappens (book_machine plain)
+
+-- To a history, which is then fed the calls that the script counts as.
+pub record RunsOnHistory (t : Parameters Fixed) (h : History Edit) (r : ScriptRun) (i : History Edit) : Type 0 where
+  pub does : ScriptHappens (history_machine plain t) h r i
+  pub counts : CountsAs (history_machine plain t) h r.script r.answer i
+
+-- What happens to a plain book.
+abbrev pub BookEvent : Type 0
+BookEvent = Event Edit ScriptRun
+
+-- A script that is run, as an event.
+abbrev pub script_event : List ℕ → (before : Workspace) → Result FinishedScript StoppedScript → (after : Workspace) → BookEvent
+script_event script before answer after = special (record { script = script; before = before; answer = answer; after = after })
+
+-- An event happens to a plain book.
+abbrev pub DoesOnBook : PlainBook → BookEvent → PlainBook → Type 0
+DoesOnBook = Does plain (book_machine plain) RunsOnBook
+
+-- The life of a plain book.
+abbrev pub LifeOfBook : (first : PlainBook) → List BookEvent → List (View Waiting) → PlainBook → Type 0
+LifeOfBook = Life plain (book_machine plain) RunsOnBook
+
+-- The life of a history.
+abbrev pub LifeOfHistory : Parameters Fixed → (first : History Edit) → List BookEvent → List (View Waiting) → History Edit → Type 0
+LifeOfHistory t = Life plain (history_machine plain t) (RunsOnHistory t)
 
 -- Whatever happens to a plain book, scripts among it, happens to the history that is told the same at creation. Of a script the history is
 -- fed the calls that it counts as.
 abbrev pub LawOfPlainBooks : Type 0
 LawOfPlainBooks = LawOfLives plain RunsOnBook RunsOnHistory
-
--- A grant as a call.
-abbrev pub grant_call : Grant → Call Edit
-grant_call g = edits (grants g.granter g.waiter)
-
--- Lawful grants, of which a detection tells, are the grants of a book: it accepts just those that the rule of lawful grants allows, unless
--- its trail is full, and is left the rows that the rule leaves.
-pub record AsAllowed (s : PlainBook) (g : Grant) : Type 0 where
-  pub accepts : (says plain s (grant_call g) ≡ done) ↔ (IsAllowed s.state.rows g × (full s.state.trail_room (summary s.state) ≡ false))
-  pub leaves : (changed plain s (grant_call g)).state.rows ≡ granted_rows s.state.rows g
-
--- So it is of every book and every grant.
-abbrev pub GrantsAreAllowed : Type 0
-GrantsAreAllowed = (s : PlainBook) (g : Grant) → AsAllowed s g

@@ -1,18 +1,15 @@
-pub mod Events
 pub mod Law
+pub mod Grants
 pub mod Moments
 pub mod LifeSteps
 pub mod Tickets
 -- What the contracts of a book cite from the rooms below, so that a client has to list none of these.
-pub use Rattle.histories.specs.Answers
 pub use Rattle.histories.specs.Calls
 pub use Rattle.histories.specs.Rules
 pub use Rattle.histories.specs.Histories
+pub use Rattle.histories.specs.CallSteps
 pub use Rattle.histories.specs.Machines
-pub use Rattle.store.specs.Books
 pub use Rattle.store.specs.Creation
-pub use Rattle.store.specs.EditAnswers
-pub use Rattle.store.specs.Edits
 pub use Rattle.store.specs.Plain
 pub use Rattle.store.specs.declared.fault.BookFault
 pub use Rattle.scripts.specs.Commands

@@ -1,10 +1,10 @@
 -- A call of a life that is made on a book.
 use Rattle.scripts.specs.Workspace.{Workspace}
 use Rattle.book.specs.Moments.{IsEvent}
-use Rattle.book.specs.Events.{BookEvent, DoesOnBook}
+use Rattle.book.specs.Law.{BookEvent, DoesOnBook}
 use Rattle.book.specs.declared.life.call.Answer.{Answer}
 use Rattle.book.specs.declared.life.call.Call.{Call}
-use Rattle.store.specs.Books.{PlainBook}
+use Rattle.store.specs.Plain.{PlainBook}
 
 -- It is an event, and happens to the book by the rules.
 pub record IsStep (s : PlainBook) (before : Workspace) (k : Call) (a : Answer) (s' : PlainBook) (after : Workspace) : Type 0 where

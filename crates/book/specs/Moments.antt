@@ -1,6 +1,6 @@
 -- What the program gives back of a life, and what it stands for.
 use Rattle.std.specs.Prelude.{◌≡◌, ℕ, List, [], ◌∷◌, ◌++◌, map, take, drop, Result}
-use Rattle.carriers.specs.Meaning.{Carried}
+use Rattle.carriers.specs.Carriers.{Carried}
 use Rattle.exchange.specs.declared.record.RunRecord.{RunRecord}
 use Rattle.groups.specs.declared.store.Ending.{Ending}
 use Rattle.groups.specs.declared.store.TicketId.{TicketId}
@@ -8,10 +8,10 @@ use Rattle.rows.specs.Waiting.{Waiting}
 use Rattle.groups.specs.History.{History, begun}
 use Rattle.detection.specs.declared.fault.DetectionFault.{DetectionFault}
 use Rattle.detection.specs.declared.verdict.Detection.{Detection}
-use Rattle.store.specs.Edits.{Edit}
+use Rattle.store.specs.Plain.{Edit, plain, PlainBook}
 use Rattle.histories.specs.Calls.{edits, opens, ends}
 use Rattle.lives.specs.Events.{made, detected}
-use Rattle.book.specs.Events.{BookEvent, script_event, LifeOfBook, LifeOfHistory}
+use Rattle.book.specs.Law.{BookEvent, script_event, LifeOfBook, LifeOfHistory}
 use Rattle.store.specs.Creation.{new_book, new_parameters}
 use Rattle.scripts.specs.Workspace.{Workspace}
 use Rattle.scripts.specs.ScriptRuns.{script_written}
@@ -28,8 +28,6 @@ use Rattle.book.specs.declared.life.moment.Moment.{Moment}
 use Rattle.store.specs.declared.snapshot.Snapshot.{Snapshot}
 use Rattle.scripts.specs.declared.fault.FinishedScript.{FinishedScript}
 use Rattle.scripts.specs.declared.fault.StoppedScript.{StoppedScript}
-use Rattle.store.specs.Plain.{plain}
-use Rattle.store.specs.Books.{PlainBook}
 
 -- What was seen at a moment.
 abbrev pub seen_at : Moment → View Waiting

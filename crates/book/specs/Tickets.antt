@@ -1,7 +1,7 @@
 -- What openings and endings by tickets answer.
 use Rattle.std.specs.Prelude.{Ok, Err, Result}
-use Rattle.histories.specs.Answers.{Answer, done, ticket, returned}
-use Rattle.store.specs.EditAnswers.{refusal}
+use Rattle.histories.specs.Calls.{Answer, done, ticket, returned}
+use Rattle.store.specs.Plain.{refusal}
 use Rattle.store.specs.Faults.{number}
 use Rattle.store.specs.declared.fault.BookFault.{BookFault}
 use Rattle.book.specs.declared.ticket.RefusedEnding.{RefusedEnding}

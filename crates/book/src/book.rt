@@ -1,20 +1,18 @@
 // The book: a store that nobody else has, and whose groups are ended by tickets alone.
 ghost use Rattle.std.specs.Prelude.{◌≡◌, ◌<◌, ◌≤◌, ◌+◌, length, IfOk, IsOk};
-ghost use Rattle.store.specs.Edits.{requests, grants};
+ghost use Rattle.store.specs.Plain.{requests, grants, plain};
 ghost use Rattle.store.specs.Creation.{new_book};
-ghost use Rattle.store.specs.Plain.{plain};
 ghost use Rattle.store.specs.Replies.{edit_reply};
 ghost use Rattle.book.specs.Tickets.{open_reply, end_reply};
 ghost use Rattle.groups.specs.History.{begun};
 ghost use Rattle.groups.specs.Limits.{depth_max};
 ghost use Rattle.histories.specs.Calls.{edits, opens, keeps, cancels, ends};
-ghost use Rattle.histories.specs.Histories.{CallStep, Represents};
+ghost use Rattle.histories.specs.CallSteps.{CallStep, Represents, SameGroups};
 ghost use Rattle.histories.specs.Machines.{book_machine, view_of};
 ghost use Rattle.store.specs.Snapshots.{snapshot_view};
 ghost use Rattle.scripts.specs.Workspace.{workspace};
 ghost use Rattle.scripts.specs.ScriptCalls.{CountsAs};
 ghost use Rattle.scripts.specs.ScriptRuns.{ScriptStep, script_written};
-ghost use Rattle.histories.specs.Rules.{SameGroups};
 
 use crate::ticket::{RefusedEnding, Ticket};
 use carriers::Carrier;
@@ -33,7 +31,7 @@ pub struct Book<'a> {
 }
 
 impl<'a> Model for Book<'a> {
-    ghost use Rattle.store.specs.Books.{PlainBook};
+    ghost use Rattle.store.specs.Plain.{PlainBook};
 
     ghost Value = { PlainBook };
 

@@ -6,7 +6,8 @@ use Rattle.std.proofs.lemmas.List.Sorted.{length_permutation, IsPermutation-refl
 use Rattle.std.proofs.lemmas.Bool.{lt-ltb}
 use Rattle.carriers.specs.declared.carrier.CarrierFull.{CarrierFull}
 use Rattle.carriers.specs.Faults.{refusal_number}
-use Rattle.carriers.specs.Meaning.{Carried, Put, Sent}
+use Rattle.carriers.specs.Meaning.{Put, Sent}
+use Rattle.carriers.specs.Carriers.{Carried}
 use Rattle.carriers.specs.declared.message.Message.{Message}
 
 -- No put changes nothing.

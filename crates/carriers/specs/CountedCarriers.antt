@@ -1,7 +1,7 @@
 -- Carriers made of a container of messages and a count of those handed out.
 use Rattle.std.specs.Prelude.{ℕ, List, []}
 use Rattle.containers.specs.Held.{Held}
-use Rattle.carriers.specs.Meaning.{Carried}
+use Rattle.carriers.specs.Carriers.{Carried}
 use Rattle.carriers.specs.declared.counted.Counted.{Counted}
 use Rattle.carriers.specs.declared.message.Message.{Message}
 use Rattle.carriers.specs.declared.picked.Picked.{Picked}

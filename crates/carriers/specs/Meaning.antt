@@ -1,16 +1,8 @@
--- What a carrier means to those who use it, and what a put and a take do to that.
+-- What a put and a take do to a carrier.
 use Rattle.std.specs.Prelude.{◌≡◌, ℕ, ◌+◌, ◌%◌, ◌^◌, cond, Some, None, Option, is_some, is_none, List, ◌∷◌, ◌++◌, length, MatchOption, nat_lt}
 use Rattle.std.specs.List.Sorted.{IsPermutation}
 use Rattle.carriers.specs.declared.message.Message.{Message}
-
--- A carrier, whatever its order of delivery.
-pub record Carried : Type 0 where
-  -- the messages that wait in it, as a collection: nothing is said of their order
-  pub waiting : List Message
-  -- how many can wait in it
-  pub capacity : ℕ
-  -- how many it has handed out, modulo 2 ^ 32
-  pub handed : ℕ
+use Rattle.carriers.specs.Carriers.{Carried}
 
 -- A put of a message, and the number by which it is refused, if it is.
 pub record Put (before after : Carried) (message : Message) (refused : Option ℕ) : Type 0 where

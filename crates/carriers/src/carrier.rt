@@ -1,7 +1,8 @@
 // What carries messages, in an order of its own.
 ghost use Rattle.std.specs.Prelude.{◌≡◌, ◌≤◌, length};
 ghost use Rattle.carriers.specs.Faults.{number, refusal_number};
-ghost use Rattle.carriers.specs.Meaning.{Carried, Put, Took};
+ghost use Rattle.carriers.specs.Meaning.{Put, Took};
+ghost use Rattle.carriers.specs.Carriers.{Carried};
 
 use crate::message::Message;
 use containers::Full;

@@ -2,7 +2,8 @@
 use Rattle.std.proofs.Common.{◌≡◌, ℕ, ◌<◌, ◌≤◌, true, List, length, get_or, map, sym, subst}
 use Rattle.std.proofs.lemmas.List.{length-map}
 use Rattle.std.proofs.lemmas.Bool.{and_parts}
-use Rattle.rows.specs.Law.{targets_max, places_fit, row_fits}
+use Rattle.rows.specs.Law.{targets_max, row_fits}
+use Rattle.rows.specs.Storage.{places_fit}
 use Rattle.rows.specs.Obeys.{rows_obey}
 use Rattle.rows.proofs.ObeysLemmas.{obeyed_at, map_obeys}
 use Rattle.rows.proofs.Places.{places_tell}

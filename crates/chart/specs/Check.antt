@@ -2,7 +2,7 @@
 use Rattle.std.specs.Prelude.{ℕ, ◌%◌, Bool, cond, not, ◌||◌, List, [], length, map, position, Some, None, Ok, Err, Option, Result, ◌==◌, nat_lt}
 use Rattle.std.specs.List.{enumerate_from}
 use Rattle.rows.specs.Waiting.{Waiting}
-use Rattle.rows.specs.Law.{stored_fits}
+use Rattle.rows.specs.Storage.{stored_fits}
 use Rattle.chart.specs.Faults.{Refusal, refused}
 use Rattle.chart.specs.Layout.{row_bytes, chart_max, need_byte, count_byte, target_bytes, row_of, job_count, bytes_of_jobs}
 

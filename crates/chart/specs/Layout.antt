@@ -2,7 +2,7 @@
 use Rattle.std.specs.Prelude.{ℕ, ◌*◌, ◌/◌, List, length, drop, slice_index}
 use Rattle.std.specs.Simd.{first_chunks}
 use Rattle.rows.specs.Waiting.{Waiting}
-use Rattle.rows.specs.Law.{stored}
+use Rattle.rows.specs.Storage.{stored}
 use Rattle.tables.specs.Tables.{jobs_max}
 
 -- How many bytes a job has: its need, its number of targets, and sixteen target bytes.

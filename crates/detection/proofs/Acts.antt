@@ -5,7 +5,8 @@ use Rattle.std.proofs.lemmas.Bool.{eq-eqb, cond-true}
 use Rattle.carriers.specs.declared.message.Kind.{Kind}
 use Rattle.carriers.specs.declared.message.Kind.TheVariants.{Grant, Ack}
 use Rattle.carriers.specs.declared.message.Wait.{Wait}
-use Rattle.carriers.specs.Meaning.{Carried, Sent}
+use Rattle.carriers.specs.Meaning.{Sent}
+use Rattle.carriers.specs.Carriers.{Carried}
 use Rattle.carriers.proofs.Sends.{sent_more, length-sent}
 use Rattle.rows.specs.Waiting.{Waiting, at, is_active}
 use Rattle.rows.specs.Law.{targets_max}

@@ -2,7 +2,8 @@
 use Rattle.std.proofs.Common.{◌≡◌, ℕ, ◌^◌, ◌<◌, List, [], length, get_or, None, sym, refl, ap, ◌∙◌, subst, arith}
 use Rattle.std.proofs.lemmas.List.{nil_from_length, take_all, drop_all}
 use Rattle.std.proofs.lemmas.Bool.{ltb-false}
-use Rattle.carriers.specs.Meaning.{Carried, Took}
+use Rattle.carriers.specs.Meaning.{Took}
+use Rattle.carriers.specs.Carriers.{Carried}
 use Rattle.carriers.specs.declared.message.Message.{Message}
 use Rattle.rows.specs.Waiting.{Waiting}
 use Rattle.tables.specs.Tables.{IsTable}

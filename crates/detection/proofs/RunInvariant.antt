@@ -4,7 +4,8 @@ use Rattle.std.specs.List.Sorted.{IsPermutation}
 use Rattle.std.proofs.lemmas.List.{get_or-replicate, length-append, length_push, nil_from_length}
 use Rattle.std.proofs.lemmas.List.Sorted.{IsPermutation-refl, IsPermutation-sym}
 use Rattle.std.proofs.ByRecursion.{all_shuffled}
-use Rattle.carriers.specs.Meaning.{Carried, Took, Sent}
+use Rattle.carriers.specs.Meaning.{Took, Sent}
+use Rattle.carriers.specs.Carriers.{Carried}
 use Rattle.carriers.specs.declared.message.Message.{Message}
 use Rattle.rows.specs.Waiting.{Waiting}
 use Rattle.tables.specs.Tables.{waits, IsTable}

@@ -3,7 +3,8 @@ use Rattle.std.proofs.Common.{◌≡◌, ℕ, ◌+◌, ◌<◌, true, eqb, List,
 use Rattle.std.proofs.lemmas.List.{map_push, length-map, length-append, length_push, append_assoc}
 use Rattle.std.proofs.lemmas.Bool.{eq-eqb, or_right}
 use Rattle.rows.specs.Waiting.{among}
-use Rattle.carriers.specs.Meaning.{Carried, Sent}
+use Rattle.carriers.specs.Meaning.{Sent}
+use Rattle.carriers.specs.Carriers.{Carried}
 use Rattle.carriers.specs.declared.message.Message.{Message}
 use Rattle.carriers.proofs.Sends.{sent_none, sent_more, length-sent}
 use Rattle.detection.specs.Preconditions.{RoomFor}

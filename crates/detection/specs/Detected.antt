@@ -1,14 +1,17 @@
 -- When a detection is stopped, and what any other leaves.
-use Rattle.std.specs.Prelude.{◌≡◌, ℕ, ◌+◌, ◌*◌, ◌%◌, ◌^◌, ◌<◌, ◌≤◌, cond, ◌↔◌, List, [], length, take, drop, Some, None, Option, nat_le, nat_lt, slice_index_or}
-use Rattle.carriers.specs.Meaning.{Carried}
+use Rattle.std.specs.Prelude.{◌≡◌, ℕ, ◌+◌, ◌*◌, ◌%◌, ◌^◌, ◌<◌, ◌≤◌, cond, ◌↔◌, List, [], length, take, drop, Some, None, Option, Result, MatchResult, nat_le, nat_lt, slice_index_or}
+use Rattle.carriers.specs.Carriers.{Carried}
 use Rattle.carriers.specs.declared.message.Message.{Message}
 use Rattle.rows.specs.Waiting.{Waiting}
 use Rattle.tables.specs.Tables.{waits}
 use Rattle.tables.specs.Grants.{CanBeFreed}
 use Rattle.exchange.specs.Records.{blank}
 use Rattle.exchange.specs.Runs.{Exchange}
-use Rattle.exchange.specs.Bounds.{deliveries_per_wait, capacity_per_wait, RunsBounded}
+use Rattle.exchange.specs.Bounds.{RunsBounded}
+use Rattle.exchange.specs.Limits.{deliveries_per_wait, capacity_per_wait}
 use Rattle.exchange.specs.declared.record.RunRecord.{RunRecord}
+use Rattle.detection.specs.Faults.{refusal_number}
+use Rattle.detection.specs.declared.fault.DetectionFault.{DetectionFault}
 use Rattle.detection.specs.declared.verdict.Detection.{Detection}
 use Rattle.detection.specs.declared.verdict.Verdict.{Verdict}
 use Rattle.detection.specs.declared.verdict.Verdict.TheVariants.{Stuck, Free}
@@ -48,3 +51,8 @@ pub record IsFinishedRun (rows : List Waiting) (initiator : ℕ) (was is : List 
   pub free : (d.verdict ≡ Free) ↔ CanBeFreed rows initiator
   -- whatever order the messages had come in, no put would have been refused and no count would have fallen below 0
   pub bounded : RunsBounded rows initiator
+
+-- It is refused exactly by the first check that fails, with its number, and then changes neither records nor carrier; else a whole run is made.
+pub record Detects (rows : List Waiting) (initiator : ℕ) (was is : List RunRecord) (before after : Carried) (r : Result Detection DetectionFault) : Type 0 where
+  pub stopped : refusal_number r ≡ stop rows initiator (length was) before
+  pub left : MatchResult r (λ d. IsFinishedRun rows initiator was is before after d) (λ _. (is ≡ was) × (after ≡ before))

@@ -1,5 +1,4 @@
 -- What a detection is stopped by, what it leaves, and what its steps ask for.
 pub mod Faults
 pub mod Detected
-pub mod Detects
 pub mod Preconditions

@@ -1,6 +1,6 @@
 -- What the steps of a detection ask for.
 use Rattle.std.specs.Prelude.{◌+◌, ◌≤◌, List, length}
-use Rattle.carriers.specs.Meaning.{Carried}
+use Rattle.carriers.specs.Carriers.{Carried}
 use Rattle.carriers.specs.declared.message.Message.{Message}
 
 -- A carrier has room for some more messages.

@@ -9,16 +9,9 @@ use Rattle.rows.specs.Waiting.{Waiting, at}
 use Rattle.tables.specs.Tables.{lawful, waits}
 use Rattle.carriers.specs.Messages.{receiver}
 use Rattle.exchange.specs.Records.{blank}
+use Rattle.exchange.specs.Limits.{deliveries_per_wait, capacity_per_wait}
 use Rattle.exchange.specs.Runs.{RunState, Exchange}
 use Rattle.exchange.specs.declared.record.RunRecord.{RunRecord}
-
--- A run has at most so many deliveries for each wait.
-abbrev pub deliveries_per_wait : ℕ
-deliveries_per_wait = 4
-
--- So many messages for each wait are on their way at most. A carrier that has room for these refuses none of a run.
-abbrev pub capacity_per_wait : ℕ
-capacity_per_wait = 2
 
 -- A DONE finds one due, and so does an ACK; a GRANT finds a job that was granted less often than it has targets. So no count
 -- falls below 0, and none rises above what a row allows.

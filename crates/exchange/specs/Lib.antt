@@ -3,5 +3,6 @@ pub mod Records
 pub mod Messages
 pub mod Rules
 pub mod Runs
+pub mod Limits
 pub mod Bounds
 pub mod Verdicts

@@ -4,10 +4,9 @@ use Rattle.std.proofs.lemmas.List.{set-set, set-get_or}
 use Rattle.std.proofs.lemmas.Bool.{eq-eqb, lt-ltb}
 use Rattle.wait_book.specs.State.{summary, innermost, with_undo_record, merged, undo_record, opened}
 use Rattle.groups.proofs.RollBackLemmas.{same_state}
-use Rattle.wait_book.specs.Calls.{edits, opens, keeps, cancels}
+use Rattle.wait_book.specs.Calls.{edits, opens, keeps, cancels, Answer, ticket, accepted, too_deep}
 use Rattle.wait_book.specs.Rules.{BookState, book_state, Rules, changed, says, after}
-use Rattle.wait_book.specs.Histories.{CallStep}
-use Rattle.wait_book.specs.Answers.{Answer, ticket, accepted, too_deep}
+use Rattle.wait_book.specs.CallSteps.{CallStep}
 
 module _ {P E K : Type 0} (R : Rules P E K) where
   abbrev opening : BookState P K → BookState P K

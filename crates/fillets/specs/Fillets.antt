@@ -1,14 +1,10 @@
 -- What a fillet does to the book, and what comes of it.
 use Rattle.std.specs.Prelude.{ℕ, Bool, cond, ◌&&◌, List, Some, None, Ok, Err, Option, Result}
-use Rattle.wait_book.specs.Calls.{Call, edits, opens}
-use Rattle.wait_book.specs.Edits.{Edit, requests}
+use Rattle.wait_book.specs.Calls.{Call, edits, opens, Answer, done, accepted}
+use Rattle.wait_book.specs.Plain.{Edit, requests, plain, PlainBook, refusal}
 use Rattle.wait_book.specs.Rules.{changed, says}
-use Rattle.wait_book.specs.Answers.{Answer, done, accepted}
-use Rattle.wait_book.specs.EditAnswers.{refusal}
 use Rattle.fillets.specs.declared.fillet.FilletFault.{FilletFault}
 use Rattle.fillets.specs.declared.fillet.FilletFault.TheVariants.{TooThin, InBook}
-use Rattle.wait_book.specs.Plain.{plain}
-use Rattle.wait_book.specs.Books.{PlainBook}
 
 -- How many faces a fillet waits for.
 abbrev pub faces_needed : ℕ

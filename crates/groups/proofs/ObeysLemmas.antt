@@ -10,7 +10,8 @@ use Rattle.groups.specs.declared.store.Ending.TheVariants.{Keep, Cancel}
 use Rattle.groups.specs.declared.store.UndoRecord.{UndoRecord}
 use Rattle.groups.specs.Limits.{row_count}
 use Rattle.groups.specs.Obeys.{undo_records_obey, groups_obey, Obeys}
-use Rattle.groups.specs.State.{State, undo_record, with_undo_record, merged, rolled_back, restored, outside, fresh, written, kept, cancelled}
+use Rattle.groups.specs.State.{State, undo_record, with_undo_record, merged, rolled_back, restored, outside, written, kept, cancelled}
+use Rattle.groups.specs.Beginning.{fresh}
 use Rattle.groups.specs.TicketIds.{ended_as}
 use Rattle.groups.specs.StateViews.{view}
 use Rattle.groups.proofs.ViewLemmas.{length-restored}

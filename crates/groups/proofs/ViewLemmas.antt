@@ -5,7 +5,8 @@ use lib.Seq.{take-set-lt}
 use Rattle.std.proofs.lemmas.List.{map-set, map-append, length-map, length-set, length-take-le, get_or-take, take-set-le, set_past, take-replicate}
 use Rattle.std.proofs.lemmas.Bool.{cases_lt}
 use Rattle.groups.specs.declared.store.UndoRecord.{UndoRecord}
-use Rattle.groups.specs.State.{State, summary, total, undo_record, with_undo_record, merged, rolled_back, restored, outside, fresh, written, kept, cancelled}
+use Rattle.groups.specs.State.{State, summary, total, undo_record, with_undo_record, merged, rolled_back, restored, outside, written, kept, cancelled}
+use Rattle.groups.specs.Beginning.{fresh}
 use Rattle.groups.specs.StateViews.{undo_record_view, view}
 use Rattle.groups.proofs.RollBackLemmas.{same_state}
 

@@ -1,5 +1,6 @@
 pub mod Limits
 pub mod State
+pub mod Beginning
 pub mod History
 pub mod Representation
 pub mod Memory

@@ -1,7 +1,7 @@
 -- Rows with open groups, and what each call makes of them.
-use Rattle.std.specs.Prelude.{ℕ, ◌+◌, min, Bool, ◌&&◌, List, [], ◌∷◌, ◌++◌, length, replicate, ◌==◌, nat_le, nat_lt, slice_index_or, slice_set}
+use Rattle.std.specs.Prelude.{ℕ, ◌+◌, Bool, ◌&&◌, List, [], ◌∷◌, ◌++◌, length, ◌==◌, nat_le, nat_lt, slice_index_or, slice_set}
 use Rattle.groups.specs.declared.store.UndoRecord.{UndoRecord}
-use Rattle.groups.specs.Limits.{depth_max, trail_max}
+use Rattle.groups.specs.Limits.{depth_max}
 
 -- The rows; the undo records that each open group would put back, the innermost group first and in each the oldest first;
 -- the mark of the ticket ids; and how many undo records the trail has room for.
@@ -37,10 +37,6 @@ can_open f = nat_lt f.depth depth_max
 -- A ticket id is the innermost group's: its mark is the right one, and its depth is the number of open groups, not 0.
 abbrev pub innermost : {P : Type 0} → ℕ → Summary P → (mark depth : ℕ) → Bool
 innermost m f mark depth = mark == m && (depth == f.depth && nat_lt 0 depth)
-
--- At first all rows are the same, and no group is open. The trail has as many records as the lent memory, at most 1,024.
-abbrev pub fresh : {P : Type 0} → (n : ℕ) → P → (mark memory : ℕ) → State P
-fresh n row mark memory = record { rows = replicate n row; groups = []; mark = mark; trail_room = min memory trail_max }
 
 -- What stands in a row before `row` is written there.
 abbrev pub undo_record : {P : Type 0} → List P → ℕ → P → UndoRecord P

@@ -5,10 +5,10 @@ use Rattle.groups.specs.declared.store.Ending.{Ending}
 use Rattle.groups.specs.History.{History, begun}
 use Rattle.groups.specs.State.{summary}
 use Rattle.groups.proofs.RepresentationLemmas.{represents_summary}
-use Rattle.histories.specs.Answers.{accepted}
-use Rattle.histories.specs.Calls.{Call, edits, opens, keeps, cancels, ends}
+use Rattle.histories.specs.Calls.{accepted, Call, edits, opens, keeps, cancels, ends}
 use Rattle.histories.specs.Rules.{Parameters, BookState, parameters, Rules, fresh_book, says, after, changed}
-use Rattle.histories.specs.Histories.{summary_of, answers, history_after, Represents}
+use Rattle.histories.specs.Histories.{summary_of, answers, history_after}
+use Rattle.histories.specs.CallSteps.{Represents}
 use Rattle.histories.specs.Machines.{book_machine, history_machine, view_of}
 use Rattle.histories.proofs.SimulationLemmas.{length-changed, says_answers, after_represents, fresh_represents}
 

@@ -7,9 +7,8 @@ use Rattle.groups.specs.TicketIds.{fits, ended_as}
 use Rattle.groups.specs.StateViews.{view}
 use Rattle.groups.proofs.ViewLemmas.{view_kept, view_cancelled, view_depth, view_used}
 use Rattle.groups.specs.State.{State, Summary, summary, full, innermost, written, opened, kept, cancelled}
-use Rattle.histories.specs.Answers.{Answer, done, ticket, accepted, trail_full, too_deep, not_innermost}
-use Rattle.histories.specs.Calls.{Call, edits, opens, keeps, cancels, ends}
-use Rattle.histories.specs.Histories.{CallStep}
+use Rattle.histories.specs.Calls.{Answer, done, ticket, accepted, trail_full, too_deep, not_innermost, Call, edits, opens, keeps, cancels, ends}
+use Rattle.histories.specs.CallSteps.{CallStep}
 use Rattle.histories.specs.Rules.{BookState, book_state, Rules, says, changed}
 use Rattle.histories.proofs.TicketIdAnswers.{ticket_id_answer, ending_answer_of}
 use Rattle.histories.proofs.SimulationLemmas.{call_step}

@@ -6,10 +6,10 @@ use Rattle.groups.specs.History.{History, begun}
 use Rattle.groups.specs.Representation.{RepresentsFrom}
 use Rattle.groups.proofs.RepresentationLemmas.{represents_summary, write_represents, open_represents, keep_represents, cancel_represents}
 use Rattle.groups.proofs.ViewLemmas.{length-restored}
-use Rattle.histories.specs.Calls.{Call, edits, opens, keeps, cancels}
-use Rattle.histories.specs.Answers.{Answer, accepted}
+use Rattle.histories.specs.Calls.{Call, edits, opens, keeps, cancels, Answer, accepted}
 use Rattle.histories.specs.Rules.{Parameters, BookState, parameters, Rules, fresh_book, answer, says, after, changed, changed_state}
-use Rattle.histories.specs.Histories.{answers, lists_after, history_after, depth_after, Represents, Simulates, CallStep}
+use Rattle.histories.specs.Histories.{answers, lists_after, history_after}
+use Rattle.histories.specs.CallSteps.{depth_after, Represents, Simulates, CallStep}
 
 -- how many groups are open after a call
 length-with_undo_record : {X : Type 0} (gs : List (List X)) (x : X) → length (with_undo_record gs x) ≡ length gs

@@ -1,7 +1,7 @@
 -- The answers that the groups' own results are.
 use Rattle.std.specs.Prelude.{Some, None, Ok, Err, Option, Result}
 use Rattle.groups.specs.declared.store.TicketId.{TicketId}
-use Rattle.histories.specs.Answers.{Answer, done, ticket, too_deep, not_innermost}
+use Rattle.histories.specs.Calls.{Answer, done, ticket, too_deep, not_innermost}
 
 -- Of an opening, by its ticket id: the ticket that tells the same.
 abbrev pub ticket_id_answer : Option TicketId → Answer

@@ -1,5 +1,5 @@
 pub mod Calls
-pub mod Answers
 pub mod Rules
 pub mod Histories
+pub mod CallSteps
 pub mod Machines

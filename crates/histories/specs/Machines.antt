@@ -1,8 +1,7 @@
 -- What calls can be made on: a book, by its state, or a history. The rules of lives are stated over either.
 use Rattle.std.specs.Prelude.{ℕ, List, length}
 use Rattle.groups.specs.History.{History}
-use Rattle.histories.specs.Answers.{Answer}
-use Rattle.histories.specs.Calls.{Call}
+use Rattle.histories.specs.Calls.{Answer, Call}
 use Rattle.histories.specs.Rules.{Parameters, BookState, Rules, says, after}
 use Rattle.histories.specs.Histories.{summary_of, answers, history_after}
 

@@ -2,8 +2,7 @@
 use Rattle.std.specs.Prelude.{◌≡◌, ℕ, ◌+◌, cond, List, [], length, replicate}
 use Rattle.rows.specs.Waiting.{Waiting}
 use Rattle.groups.specs.State.{State, Summary, summary, can_open, innermost, written, opened, kept, cancelled}
-use Rattle.histories.specs.Answers.{Answer, done, ticket, accepted, too_deep, not_innermost}
-use Rattle.histories.specs.Calls.{Call, edits, opens, keeps, cancels}
+use Rattle.histories.specs.Calls.{Answer, done, ticket, accepted, too_deep, not_innermost, Call, edits, opens, keeps, cancels}
 
 -- What creation fixes of a book: how many jobs it has, the mark of its tickets, how many records its trail has, and what this kind of book
 -- fixes besides, for instance limits.
@@ -25,10 +24,6 @@ book_state k s = record { fixed = k; state = s }
 -- All that the creation of a book has fixed.
 abbrev pub parameters : {P K : Type 0} → BookState P K → Parameters K
 parameters b = record { jobs = length b.state.rows; mark = b.state.mark; trail_room = b.state.trail_room; fixed = b.fixed }
-
--- The same mark, and as many groups open: a ticket fits after as it did before.
-abbrev pub SameGroups : {P K : Type 0} → BookState P K → BookState P K → Type 0
-SameGroups b b' = (b'.state.mark ≡ b.state.mark) × (length b'.state.groups ≡ length b.state.groups)
 
 -- A kind of book, of rows P and edits E, whose creation fixes K: the row that every job has at first; the job whose row an edit writes; the
 -- row that it writes, by the rows that it finds; the answer to an edit, by what creation has fixed and by what answers go by; and the rows as

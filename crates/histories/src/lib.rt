@@ -4,7 +4,7 @@
 #![tactic(auto)]
 
 ghost use Rattle.histories.specs.Rules.{Rules};
-ghost use Rattle.histories.specs.Histories.{Simulates};
+ghost use Rattle.histories.specs.CallSteps.{Simulates};
 
 /// Whatever kind of book it is, of rows P and edits E: each call does to a book what it does to every history that the book represents.
 pub fn books_simulate_histories<P, E, K>()

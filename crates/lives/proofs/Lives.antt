@@ -1,11 +1,10 @@
 -- Whatever happens to a book happens to the history that it shows.
 use Rattle.std.proofs.Common.{List, [], ◌∷◌, ◌++◌, sym, refl, subst}
 use Rattle.groups.specs.History.{History}
-use Rattle.detection.specs.Detects.{Detects}
-use Rattle.histories.specs.Answers.{Answer}
-use Rattle.histories.specs.Calls.{Call}
+use Rattle.detection.specs.Detected.{Detects}
+use Rattle.histories.specs.Calls.{Answer, Call}
 use Rattle.histories.specs.Rules.{Parameters, BookState, Rules}
-use Rattle.histories.specs.Histories.{CallStep}
+use Rattle.histories.specs.CallSteps.{CallStep}
 use Rattle.histories.specs.Machines.{book_machine, history_machine, View}
 use Rattle.histories.proofs.BookBesideHistory.{Stands, same_rows, same_answer, same_view, stands_after, fresh_stands}
 use Rattle.lives.specs.Events.{Event, made, Does, calls, detects, happens, Life, begins, lives}

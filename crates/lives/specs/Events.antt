@@ -1,12 +1,11 @@
 -- What happens to a book, or to a history.
 use Rattle.std.specs.Prelude.{ℕ, List, [], ◌∷◌, ◌++◌, Result}
-use Rattle.carriers.specs.Meaning.{Carried}
+use Rattle.carriers.specs.Carriers.{Carried}
 use Rattle.exchange.specs.declared.record.RunRecord.{RunRecord}
-use Rattle.detection.specs.Detects.{Detects}
+use Rattle.detection.specs.Detected.{Detects}
 use Rattle.detection.specs.declared.fault.DetectionFault.{DetectionFault}
 use Rattle.detection.specs.declared.verdict.Detection.{Detection}
-use Rattle.histories.specs.Answers.{Answer}
-use Rattle.histories.specs.Calls.{Call}
+use Rattle.histories.specs.Calls.{Answer, Call}
 use Rattle.histories.specs.Rules.{Rules}
 use Rattle.histories.specs.Machines.{Machine, View, view_of}
 

@@ -9,7 +9,7 @@ use Rattle.std.proofs.lemmas.Slice.Eq.{slice_eq-Decides}
 use Rattle.rows.specs.declared.plain.PlainRow.{PlainRow}
 use Rattle.rows.specs.declared.plain.Row.{Row}
 use Rattle.rows.specs.Waiting.{Waiting}
-use Rattle.rows.specs.Law.{sound}
+use Rattle.rows.specs.Storage.{sound}
 use Rattle.rows.specs.StoredRows.{waiting, waiting_of, places_of, stored_as, all_sound, says_same, StoredWhole}
 use Rattle.rows.proofs.Places.{places_tell, fitting_places_are_decided}
 use Rattle.rows.proofs.StoredRowLemmas.{sound_parts}

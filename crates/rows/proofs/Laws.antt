@@ -4,7 +4,8 @@ use mathlib.Core.Bool.{not-not}
 use Rattle.std.proofs.lemmas.Bool.{cases_Bool, and_parts, and_from, eqb-false}
 use Rattle.rows.specs.declared.plain.PlainRow.{PlainRow}
 use Rattle.rows.specs.Waiting.{Waiting, idle, among}
-use Rattle.rows.specs.Law.{counts_fit, rising, targets_fit, row_fits, shaped, places_fit, sound}
+use Rattle.rows.specs.Law.{counts_fit, rising, targets_fit, row_fits}
+use Rattle.rows.specs.Storage.{shaped, places_fit, sound}
 use Rattle.rows.specs.Changes.{wrong_counts, first_wrong, without, granted}
 use Rattle.rows.specs.StoredRows.{waiting, plain_fits, placed, requested}
 use Rattle.rows.proofs.Counts.{Counts, fit_tells, right_counts_fit, one_less_fits}

@@ -3,7 +3,8 @@ use Rattle.std.proofs.Common.{◌≡◌, ℕ, zero, suc, ◌-◌, ◌≤◌, tru
 use Rattle.std.proofs.lemmas.List.{length-take-le, take-append-drop, length-replicate}
 use Rattle.std.proofs.Math.Seq.{take-append_seam, drop-append_seam}
 use Rattle.std.proofs.lemmas.Bool.{and_parts, and_from, eqb-true, eq-eqb, leb-true, le-leb}
-use Rattle.rows.specs.Law.{targets_max, all_zero, places_fit}
+use Rattle.rows.specs.Law.{targets_max}
+use Rattle.rows.specs.Storage.{all_zero, places_fit}
 use Rattle.rows.specs.StoredRows.{places_of}
 
 -- What fitting places tell.

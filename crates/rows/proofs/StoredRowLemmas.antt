@@ -6,7 +6,8 @@ use borrow.Rule.Slice.PartMut.{put_mid}
 use Rattle.std.proofs.lemmas.List.Edits.{length-remove}
 use Rattle.std.proofs.lemmas.Bool.{and_parts, and_from}
 use Rattle.std.specs.List.{remove}
-use Rattle.rows.specs.Law.{targets_max, counts_fit, rising, shaped, stored, places_fit, sound}
+use Rattle.rows.specs.Law.{targets_max, counts_fit, rising}
+use Rattle.rows.specs.Storage.{shaped, stored, places_fit, sound}
 use Rattle.rows.specs.Changes.{first_wrong}
 use Rattle.rows.specs.StoredRows.{places_of}
 use Rattle.rows.proofs.Counts.{fit_tells, one_less_fits}

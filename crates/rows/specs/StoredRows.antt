@@ -10,7 +10,8 @@ use Rattle.rows.specs.declared.plain.LawBroken.{LawBroken}
 use Rattle.rows.specs.declared.plain.RowFault.{RowFault}
 use Rattle.rows.specs.declared.plain.RowFault.TheVariants.{WrongCounts, WrongTarget}
 use Rattle.rows.specs.Waiting.{Waiting, idle, among}
-use Rattle.rows.specs.Law.{targets_max, stored, sound, stored_fits}
+use Rattle.rows.specs.Law.{targets_max}
+use Rattle.rows.specs.Storage.{stored, sound, stored_fits}
 use Rattle.rows.specs.Changes.{wrong_counts, first_wrong, granted}
 
 -- What a stored row says.

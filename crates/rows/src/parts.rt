@@ -2,7 +2,8 @@
 ghost use Rattle.std.specs.Prelude.{◌≡◌, ◌<◌, ◌≤◌, length};
 ghost use Rattle.std.specs.List.{remove};
 ghost use Rattle.rows.specs.Waiting.{among};
-ghost use Rattle.rows.specs.Law.{targets_max, counts_fit, rising, row_fits, all_zero, places_fit};
+ghost use Rattle.rows.specs.Law.{targets_max, counts_fit, rising, row_fits};
+ghost use Rattle.rows.specs.Storage.{all_zero, places_fit};
 ghost use Rattle.rows.specs.Changes.{first_wrong};
 ghost use Rattle.rows.specs.Places.{IsPlaceOf};
 ghost use Rattle.rows.specs.StoredRows.{places_of};

@@ -4,7 +4,7 @@ mod checks;
 mod questions;
 
 ghost use Rattle.std.specs.Prelude.{◌≡◌, true};
-ghost use Rattle.rows.specs.Law.{sound};
+ghost use Rattle.rows.specs.Storage.{sound};
 
 use std::error::Error;
 use std::fmt;

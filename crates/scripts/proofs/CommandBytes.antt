@@ -3,7 +3,7 @@ use Rattle.std.proofs.Common.{◌≡◌, ℕ, ◌+◌, Bool, true, false, cond, 
 use Rattle.std.proofs.lemmas.Bool.{eqb-true, leb-true}
 use Rattle.std.proofs.lemmas.List.{length-take-le, take-append-drop}
 use Rattle.groups.specs.declared.store.Ending.TheVariants.{Keep, Cancel}
-use Rattle.store.specs.Edits.{requests}
+use Rattle.store.specs.Plain.{requests}
 use Rattle.scripts.specs.Commands.{Command, makes, opening, ending, unknown, cut, whole, request_head, grant_head, detection_head, head}
 use Rattle.scripts.specs.ScriptCalls.{command_bytes}
 

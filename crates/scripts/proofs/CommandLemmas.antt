@@ -1,22 +1,18 @@
 -- The arms of a script's command.
 use Rattle.std.proofs.Common.{◌≡◌, ℕ, ◌+◌, ◌-◌, cond, List, drop, drop-drop, IsErrAnd, Result, Ok, Err, sym, ap, ◌∙◌, arith}
-use Rattle.carriers.specs.Meaning.{Carried}
+use Rattle.carriers.specs.Carriers.{Carried}
 use Rattle.exchange.specs.declared.record.RunRecord.{RunRecord}
 use Rattle.store.specs.declared.fault.BookFault.{BookFault}
 use Rattle.scripts.specs.declared.fault.ScriptFault.{ScriptFault}
 use Rattle.scripts.specs.declared.tally.Tally.{Tally}
-use Rattle.histories.specs.Answers.{done, accepted}
-use Rattle.store.specs.EditAnswers.{refusal}
+use Rattle.histories.specs.Calls.{done, accepted, Call, edits}
+use Rattle.store.specs.Plain.{refusal, Edit, plain, PlainBook}
 use Rattle.histories.specs.Rules.{says, after, changed}
-use Rattle.store.specs.Edits.{Edit}
-use Rattle.histories.specs.Calls.{Call, edits}
-use Rattle.histories.specs.Histories.{CallStep}
+use Rattle.histories.specs.CallSteps.{CallStep}
 use Rattle.scripts.specs.Commands.{Command, makes}
 use Rattle.scripts.specs.Scripts.{Progress, CarriesOut, Stops, edited}
 use Rattle.histories.specs.Machines.{book_machine}
 use Rattle.scripts.specs.RunningScripts.{progress_of, CarriedOut}
-use Rattle.store.specs.Plain.{plain}
-use Rattle.store.specs.Books.{PlainBook}
 
 -- a refused call leaves the book as it was
 pub refused_leaves : (s s' : PlainBook) (c : Call Edit) (fault : BookFault) → refusal fault ≡ says plain s c → s' ≡ after plain s c → s' ≡ s

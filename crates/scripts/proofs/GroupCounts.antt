@@ -3,9 +3,9 @@ use Rattle.std.proofs.Common.{◌≡◌, ◌<◌, Bool, true, false, cond, [], �
 use Rattle.std.proofs.lemmas.Bool.{and_from, eq-eqb, lt-ltb}
 use Rattle.groups.specs.History.{History, history}
 use Rattle.groups.specs.State.{Summary, summary}
-use Rattle.histories.specs.Answers.{done, accepted, not_innermost}
-use Rattle.histories.specs.Calls.{Call, edits, opens, keeps, cancels}
-use Rattle.histories.specs.Histories.{answers, summary_of, lists_after, depth_after}
+use Rattle.histories.specs.Calls.{done, accepted, not_innermost, Call, edits, opens, keeps, cancels}
+use Rattle.histories.specs.Histories.{answers, summary_of, lists_after}
+use Rattle.histories.specs.CallSteps.{depth_after}
 use Rattle.histories.specs.Rules.{Parameters, parameters, Rules, says, after, ending_answer}
 use Rattle.histories.specs.Machines.{Machine, book_machine, history_machine}
 use Rattle.histories.proofs.SimulationLemmas.{call_step}

@@ -10,8 +10,7 @@ use Rattle.scripts.specs.Commands.{Command, whole, head}
 use Rattle.scripts.specs.ScriptFaults.{refusal_of}
 use Rattle.scripts.specs.Scripts.{Progress, CarriesOut, Stops, ReadStep, ReadAll, carried_out, refused, no_command, finishes, faults, steps, unreadable, cancel_groups}
 use Rattle.histories.specs.Machines.{book_machine}
-use Rattle.store.specs.Plain.{plain}
-use Rattle.store.specs.Books.{PlainBook}
+use Rattle.store.specs.Plain.{plain, PlainBook}
 
 module _ {unread : List ℕ} {p : Progress PlainBook} {m : ℕ} where
   -- what the reader stands behind after a step

@@ -5,11 +5,10 @@ use Rattle.std.proofs.Math.Seq.{take-append_seam}
 use Rattle.rows.specs.Waiting.{Waiting}
 use Rattle.groups.specs.declared.store.Ending.{Ending}
 use Rattle.groups.specs.declared.store.Ending.TheVariants.{Keep, Cancel}
-use Rattle.histories.specs.Answers.{accepted}
-use Rattle.histories.specs.Calls.{Call, edits, opens, cancels, ends}
-use Rattle.histories.specs.Histories.{depth_after}
+use Rattle.histories.specs.Calls.{accepted, Call, edits, opens, cancels, ends}
+use Rattle.histories.specs.CallSteps.{depth_after}
 use Rattle.histories.specs.Machines.{Machine, book_machine}
-use Rattle.store.specs.Edits.{Edit}
+use Rattle.store.specs.Plain.{Edit, plain, PlainBook}
 use Rattle.scripts.specs.Commands.{Command, makes, opening, ending, detecting, whole, head}
 use Rattle.scripts.specs.Workspace.{Workspace}
 use Rattle.scripts.specs.Scripts.{Progress, CarriesOut, edited, opened, ended, answered, carried_out, refused, no_command, ReadAll, finishes, faults, steps, cancel_groups, start, script_answer, RunsCommands, Refused, RunsScript}
@@ -21,8 +20,6 @@ use Rattle.scripts.specs.declared.fault.FinishedScript.{FinishedScript}
 use Rattle.scripts.specs.declared.tally.Position.{Position}
 use Rattle.scripts.proofs.CommandBytes.{head_bytes}
 use Rattle.scripts.specs.ScriptRuns.{ScriptStep}
-use Rattle.store.specs.Plain.{plain}
-use Rattle.store.specs.Books.{PlainBook}
 use Rattle.scripts.proofs.GroupCounts.{CountsGroups, of_book_counts}
 
 -- groups that commands leave open, among others that they find

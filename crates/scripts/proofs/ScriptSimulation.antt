@@ -2,14 +2,13 @@
 use Rattle.std.proofs.Common.{◌≡◌, ℕ, zero, suc, ◌≤◌, Bool, true, false, List, length, Option, Some, None, Result, Ok, MatchBool, sym, refl, ap, ◌∙◌, subst, nat_lt}
 use Rattle.std.proofs.lemmas.Bool.{le-ltb}
 use Rattle.groups.specs.History.{History}
-use Rattle.detection.specs.Detected.{stop}
-use Rattle.detection.specs.Detects.{Detects}
+use Rattle.detection.specs.Detected.{stop, Detects}
 use Rattle.scripts.specs.declared.fault.ScriptFault.{ScriptFault}
 use Rattle.scripts.specs.declared.fault.StoppedScript.{StoppedScript}
 use Rattle.scripts.specs.declared.fault.FinishedScript.{FinishedScript}
 use Rattle.scripts.specs.declared.tally.Position.{Position}
 use Rattle.histories.specs.Rules.{says, after}
-use Rattle.store.specs.Edits.{Edit}
+use Rattle.store.specs.Plain.{Edit, plain, PlainBook, Fixed}
 use Rattle.histories.specs.Calls.{edits, opens, cancels, ends}
 use Rattle.scripts.specs.Commands.{Command}
 use Rattle.histories.specs.Histories.{summary_of, history_after}
@@ -20,8 +19,6 @@ use Rattle.scripts.specs.Scripts.{Progress, CarriesOut, edited, opened, ended, a
 use Rattle.scripts.specs.Limits.{script_max}
 use Rattle.histories.specs.Machines.{book_machine, history_machine}
 use Rattle.histories.proofs.BookBesideHistory.{Stands, same_answer, stands_after, same_ending, same_rows, same_mark, same_depth}
-use Rattle.store.specs.Plain.{plain}
-use Rattle.store.specs.Books.{PlainBook, Fixed}
 
 module _ (t : Parameters Fixed) where
   -- the same progress, on a history

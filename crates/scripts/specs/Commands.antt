@@ -2,7 +2,7 @@
 use Rattle.std.specs.Prelude.{ℕ, ◌+◌, cond, List, [], ◌∷◌, length, take, ◌==◌, nat_le}
 use Rattle.groups.specs.declared.store.Ending.{Ending}
 use Rattle.groups.specs.declared.store.Ending.TheVariants.{Keep, Cancel}
-use Rattle.store.specs.Edits.{Edit, requests, grants}
+use Rattle.store.specs.Plain.{Edit, requests, grants}
 
 -- A command: an edit, an opening, an ending, a detection.
 pub data Command : Type 0 where

@@ -1,6 +1,6 @@
 -- What the steps of a running script ask for and promise.
 use Rattle.std.specs.Prelude.{◌≡◌, ℕ, ◌≤◌, List, length, MatchResult, Result}
-use Rattle.carriers.specs.Meaning.{Carried}
+use Rattle.carriers.specs.Carriers.{Carried}
 use Rattle.exchange.specs.declared.record.RunRecord.{RunRecord}
 use Rattle.scripts.specs.Commands.{Command}
 use Rattle.scripts.specs.Scripts.{Progress, CarriesOut, Stops}
@@ -8,8 +8,7 @@ use Rattle.histories.specs.Machines.{book_machine}
 use Rattle.scripts.specs.declared.fault.ScriptFault.{ScriptFault}
 use Rattle.scripts.specs.declared.tally.Tally.{Tally}
 use Rattle.scripts.specs.Workspace.{workspace}
-use Rattle.store.specs.Plain.{plain}
-use Rattle.store.specs.Books.{PlainBook}
+use Rattle.store.specs.Plain.{plain, PlainBook}
 
 -- How far a script on a book has come.
 abbrev pub progress_of : PlainBook → List RunRecord → Carried → (bytes : List ℕ) → Tally → Progress PlainBook

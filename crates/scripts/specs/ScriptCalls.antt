@@ -3,10 +3,9 @@
 use Rattle.std.specs.Prelude.{◌≡◌, ℕ, zero, suc, ◌+◌, ◌-◌, ◌<◌, true, List, [], ◌∷◌, ◌++◌, length, take, fold, flat_map, Ok, Err, IfOk, Result, ⊤}
 use Rattle.rows.specs.Waiting.{Waiting}
 use Rattle.groups.specs.declared.store.Ending.TheVariants.{Keep, Cancel}
-use Rattle.histories.specs.Answers.{accepted}
-use Rattle.histories.specs.Calls.{Call, edits, opens, cancels, ends}
+use Rattle.histories.specs.Calls.{accepted, Call, edits, opens, cancels, ends}
 use Rattle.histories.specs.Machines.{Machine}
-use Rattle.store.specs.Edits.{Edit, requests, grants}
+use Rattle.store.specs.Plain.{Edit, requests, grants}
 use Rattle.scripts.specs.Commands.{Command, makes, opening, ending, detecting}
 use Rattle.scripts.specs.declared.fault.StoppedScript.{StoppedScript}
 use Rattle.scripts.specs.declared.fault.FinishedScript.{FinishedScript}

@@ -1,16 +1,14 @@
 -- A script that is run on a book.
 use Rattle.std.specs.Prelude.{ℕ, List, Ok, Err, Result}
 use Rattle.groups.specs.History.{History}
-use Rattle.store.specs.Edits.{Edit}
+use Rattle.store.specs.Plain.{Edit, plain, PlainBook}
 use Rattle.histories.specs.Rules.{parameters}
-use Rattle.histories.specs.Histories.{Represents}
+use Rattle.histories.specs.CallSteps.{Represents}
 use Rattle.scripts.specs.Workspace.{Workspace}
 use Rattle.scripts.specs.Scripts.{RunsScript}
 use Rattle.histories.specs.Machines.{book_machine, history_machine}
 use Rattle.scripts.specs.declared.fault.StoppedScript.{StoppedScript}
 use Rattle.scripts.specs.declared.fault.FinishedScript.{FinishedScript}
-use Rattle.store.specs.Plain.{plain}
-use Rattle.store.specs.Books.{PlainBook}
 
 -- The book does as the rules of scripts say; and whatever history it shows before, that history does the same by the same rules, and is
 -- the one that the book shows after.

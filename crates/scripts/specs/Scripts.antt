@@ -1,17 +1,15 @@
 -- What a script does: its commands one after the other, to the first fault or to the end; and then its open groups are cancelled.
 use Rattle.std.specs.Prelude.{◌≡◌, ℕ, zero, suc, ◌+◌, ◌-◌, ◌/◌, ◌%◌, ◌<◌, ◌≤◌, List, [], ◌∷◌, ◌++◌, length, take, drop, Some, None, Ok, Err, MatchBool, Option, Result, nat_lt}
-use Rattle.carriers.specs.Meaning.{Carried}
+use Rattle.carriers.specs.Carriers.{Carried}
 use Rattle.exchange.specs.declared.record.RunRecord.{RunRecord}
-use Rattle.detection.specs.Detected.{stop}
-use Rattle.detection.specs.Detects.{Detects}
+use Rattle.detection.specs.Detected.{stop, Detects}
 use Rattle.detection.specs.declared.verdict.Detection.{Detection}
 use Rattle.detection.specs.declared.verdict.Verdict.{Verdict}
 use Rattle.detection.specs.declared.verdict.Verdict.TheVariants.{Stuck, Free}
 use Rattle.rows.specs.Waiting.{Waiting}
 use Rattle.groups.specs.declared.store.Ending.{Ending}
-use Rattle.histories.specs.Answers.{done, ticket, stopped}
-use Rattle.store.specs.Edits.{Edit}
-use Rattle.histories.specs.Calls.{Call, edits, opens, cancels, ends}
+use Rattle.histories.specs.Calls.{done, ticket, stopped, Call, edits, opens, cancels, ends}
+use Rattle.store.specs.Plain.{Edit}
 use Rattle.scripts.specs.Commands.{Command, makes, opening, ending, detecting, Head, over, unknown, cut, whole, head}
 use Rattle.scripts.specs.Workspace.{Workspace}
 use Rattle.scripts.specs.Limits.{script_max, detection_bytes}

@@ -1,6 +1,6 @@
 -- What is lent to scripts and detections: the run records, the carrier, by its meaning, and the answer bytes.
 use Rattle.std.specs.Prelude.{ℕ, List}
-use Rattle.carriers.specs.Meaning.{Carried}
+use Rattle.carriers.specs.Carriers.{Carried}
 use Rattle.exchange.specs.declared.record.RunRecord.{RunRecord}
 
 -- The records, what the carrier means, and the bytes.

@@ -6,7 +6,7 @@ ghost use Rattle.scripts.specs.ScriptRuns.{ScriptStep, script_written};
 ghost use Rattle.scripts.specs.Workspace.{workspace};
 ghost use Rattle.histories.specs.Machines.{book_machine};
 ghost use Rattle.store.specs.Plain.{plain};
-ghost use Rattle.histories.specs.Rules.{SameGroups};
+ghost use Rattle.histories.specs.CallSteps.{SameGroups};
 
 use crate::fault::{FinishedScript, ScriptFault, StoppedScript};
 use crate::steps::work;

@@ -2,7 +2,7 @@
 use Rattle.std.proofs.Common.{◌≡◌, ℕ, ◌+◌, ◌*◌, ◌%◌, ◌^◌, ◌<◌, Bool, true, false, cond, ◌↔◌, List, [], length, take, get_or, sym, refl, ap, ◌∙◌, subst, arith}
 use Rattle.std.proofs.lemmas.Bool.{true≢false}
 use Rattle.std.proofs.lemmas.List.{take_all, drop_all}
-use Rattle.carriers.specs.Meaning.{Carried}
+use Rattle.carriers.specs.Carriers.{Carried}
 use Rattle.carriers.specs.declared.message.Message.{Message}
 use Rattle.rows.specs.Waiting.{Waiting}
 use Rattle.tables.specs.Tables.{lawful, waits}

@@ -1,17 +1,15 @@
 -- The scripts of the table.
 use Rattle.std.proofs.Common.{◌≡◌, ℕ, ◌/◌, ◌%◌, false, List, [], ◌∷◌, drop, take, Some, None, Ok, Err, Result, refl, ap, ◌∙◌, arith}
 use Rattle.rows.specs.Waiting.{Waiting}
-use Rattle.detection.specs.Detects.{Detects}
+use Rattle.detection.specs.Detected.{Detects}
 use Rattle.detection.specs.declared.verdict.Detection.{Detection}
 use Rattle.detection.specs.declared.verdict.Verdict.{Verdict}
 use Rattle.detection.specs.declared.verdict.Verdict.TheVariants.{Stuck}
-use Rattle.book.specs.Books.{PlainBook}
+use Rattle.book.specs.Plain.{PlainBook, Edit, requests, grants, plain}
 use Rattle.book.specs.Commands.{detecting}
-use Rattle.book.specs.Edits.{Edit, requests, grants}
 use Rattle.book.specs.Calls.{edits}
 use Rattle.book.specs.FinishedScript.{FinishedScript}
 use Rattle.book.specs.Workspace.{Workspace}
-use Rattle.book.specs.Plain.{plain}
 use Rattle.book.specs.ScriptFault.TheVariants.{OfBook}
 use Rattle.book.specs.BookFault.TheVariants.{NoSuchWait}
 use Rattle.book.specs.ScriptFaults.{by_book, LayeredRefusal}

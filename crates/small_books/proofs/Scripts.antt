@@ -1,15 +1,13 @@
 -- What comes of a script, command by command, wherever the rules leave it no choice but that of the messages' order.
 use Rattle.std.proofs.Common.{◌≡◌, ℕ, ◌+◌, ◌≤◌, List, [], drop, length, Some, None, Ok, Option, Result, sym, refl, ap, ◌∙◌, subst, arith}
-use Rattle.carriers.specs.Meaning.{Carried}
+use Rattle.carriers.specs.Carriers.{Carried}
 use Rattle.exchange.specs.declared.record.RunRecord.{RunRecord}
 use Rattle.rows.specs.Waiting.{Waiting}
-use Rattle.detection.specs.Detected.{stop}
-use Rattle.detection.specs.Detects.{Detects}
+use Rattle.detection.specs.Detected.{stop, Detects}
 use Rattle.detection.specs.declared.verdict.Detection.{Detection}
-use Rattle.book.specs.Answers.{Answer, done, ticket, stopped, returned}
-use Rattle.book.specs.Calls.{edits}
+use Rattle.book.specs.Calls.{Answer, done, ticket, stopped, returned, edits}
 use Rattle.book.specs.Commands.{Command, makes, detecting, Head, whole, head}
-use Rattle.book.specs.Edits.{Edit}
+use Rattle.book.specs.Plain.{Edit}
 use Rattle.book.specs.FinishedScript.{FinishedScript}
 use Rattle.book.specs.ScriptFault.{ScriptFault}
 use Rattle.book.specs.ScriptFaults.{LayeredRefusal, refusal_of, by_book}

@@ -2,7 +2,7 @@
 use Rattle.std.proofs.Common.{◌≡◌, ℕ, ◌<◌, Bool, true, false, cond, not, ◌&&◌, eqb, ltb, List, [], length, take, sym, refl, ap, ◌∙◌}
 use Rattle.std.proofs.lemmas.Bool.{true≢false, and_parts, eqb-true, ltb-true}
 use Rattle.std.proofs.lemmas.List.{get_or-take}
-use Rattle.carriers.specs.Meaning.{Carried}
+use Rattle.carriers.specs.Carriers.{Carried}
 use Rattle.tables.specs.Tables.{lawful}
 use Rattle.detection.specs.Detected.{IsFinishedRun}
 use Rattle.detection.specs.declared.verdict.Detection.{Detection}

@@ -3,8 +3,7 @@ use Rattle.std.specs.Prelude.{ℕ, List, [], ◌∷◌, replicate}
 use Rattle.std.specs.List.{range_with_len}
 use Rattle.rows.specs.Waiting.{Waiting, idle}
 use Rattle.book.specs.Calls.{Call, edits}
-use Rattle.book.specs.Edits.{Edit, requests, grants}
-use Rattle.book.specs.Books.{PlainBook, book_of}
+use Rattle.book.specs.Plain.{Edit, requests, grants, PlainBook, book_of}
 
 -- The row of a job that needs so many of some targets.
 abbrev pub needs : (need : ℕ) (targets : List ℕ) → Waiting

@@ -7,8 +7,7 @@ use Rattle.exchange.specs.Runs.{RunState, Exchange}
 use Rattle.chart.specs.Check.{checked, chart_rows}
 use Rattle.reduction.specs.Reduced.{Reduced}
 use Rattle.book.specs.Rules.{says, after}
-use Rattle.book.specs.Plain.{plain}
-use Rattle.book.specs.Books.{PlainBook}
+use Rattle.book.specs.Plain.{plain, PlainBook}
 use Rattle.book.specs.Workspace.{Workspace}
 use Rattle.book.specs.FinishedScript.{FinishedScript}
 use Rattle.book.specs.StoppedScript.{StoppedScript}

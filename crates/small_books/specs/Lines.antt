@@ -2,10 +2,8 @@
 use Rattle.std.specs.Prelude.{ℕ, Bool, List, Ok, Err, Result}
 use Rattle.rows.specs.Waiting.{Waiting}
 use Rattle.chart.specs.Faults.{Refusal}
-use Rattle.book.specs.Answers.{Answer}
-use Rattle.book.specs.Calls.{Call}
-use Rattle.book.specs.Edits.{Edit}
-use Rattle.book.specs.Books.{PlainBook}
+use Rattle.book.specs.Calls.{Answer, Call}
+use Rattle.book.specs.Plain.{Edit, PlainBook}
 use Rattle.book.specs.Workspace.{Workspace}
 use Rattle.book.specs.ScriptFaults.{LayeredRefusal, refusal_of}
 use Rattle.book.specs.FinishedScript.{FinishedScript}

@@ -6,15 +6,12 @@ use Rattle.rows.specs.Law.{targets_max}
 use Rattle.tables.specs.Tables.{jobs_max, waits_max}
 use Rattle.groups.specs.Limits.{trail_max, depth_max}
 use Rattle.exchange.specs.Records.{blank}
-use Rattle.exchange.specs.Bounds.{deliveries_per_wait, capacity_per_wait}
+use Rattle.exchange.specs.Limits.{deliveries_per_wait, capacity_per_wait}
 use Rattle.chart.specs.Faults.{refused as chart_refused}
 use Rattle.chart.specs.Layout.{row_bytes, chart_max}
-use Rattle.book.specs.Answers.{done, ticket, stopped, returned}
+use Rattle.book.specs.Calls.{done, ticket, stopped, returned, Call, opens, keeps, cancels}
 use Rattle.book.specs.Rules.{after}
-use Rattle.book.specs.Calls.{Call, opens, keeps, cancels}
-use Rattle.book.specs.Edits.{Edit}
-use Rattle.book.specs.Plain.{plain}
-use Rattle.book.specs.Books.{PlainBook}
+use Rattle.book.specs.Plain.{Edit, plain, PlainBook}
 use Rattle.book.specs.Creation.{new_book}
 use Rattle.book.specs.Workspace.{Workspace, workspace}
 use Rattle.book.specs.Limits.{script_max, detection_bytes}

@@ -19,13 +19,11 @@ use Rattle.groups.specs.State.{State, summary, full, written, opened}
 use Rattle.store.specs.declared.fault.BookFault.{BookFault}
 use Rattle.store.specs.declared.fault.BookFault.TheVariants.{NoSuchJob, Blocked, WrongCounts, TrailFull, GranterBlocked, NoSuchWait, TooDeep}
 use Rattle.store.specs.Faults.{of_row}
-use Rattle.store.specs.Edits.{Edit, requests, grants}
-use Rattle.histories.specs.Calls.{edits, opens}
+use Rattle.store.specs.Plain.{Edit, requests, grants, plain, PlainBook, book_of, refusal, refused_at}
+use Rattle.histories.specs.Calls.{edits, opens, Answer, done}
 use Rattle.histories.specs.Rules.{says, book_state}
-use Rattle.histories.specs.Answers.{Answer, done}
-use Rattle.store.specs.EditAnswers.{refusal, refused_at}
 use Rattle.store.specs.Replies.{edit_reply, open_reply_by_id}
-use Rattle.histories.specs.Histories.{CallStep}
+use Rattle.histories.specs.CallSteps.{CallStep}
 use Rattle.store.specs.Memory.{IsLawful}
 use Rattle.histories.proofs.TicketIdAnswers.{ticket_id_answer}
 use Rattle.histories.proofs.CallLemmas.{open_call_step, stopped_call_step, edit_call_step}
@@ -33,8 +31,6 @@ use Rattle.store.proofs.LawfulMemory.{written_lawful}
 use Rattle.store.proofs.RowViews.{jobs_seen, wide}
 use Rattle.tables.proofs.Laws.{lawful_at}
 use Rattle.tables.specs.Tables.{lawful}
-use Rattle.store.specs.Plain.{plain}
-use Rattle.store.specs.Books.{PlainBook, book_of}
 
 -- ---- groups
 

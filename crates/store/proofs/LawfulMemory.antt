@@ -1,13 +1,15 @@
 -- What the store's type carries, kept by every call.
 use Rattle.std.proofs.Common.{◌≡◌, ℕ, ◌<◌, ◌≤◌, Bool, true, cond, ap, ◌∙◌, arith}
 use Rattle.rows.specs.declared.plain.PlainRow.{PlainRow}
-use Rattle.rows.specs.Law.{sound, row_fits}
+use Rattle.rows.specs.Law.{row_fits}
+use Rattle.rows.specs.Storage.{sound}
 use Rattle.rows.specs.StoredRows.{waiting, stored_as, plain_fits}
 use Rattle.rows.specs.Waiting.{idle}
 use Rattle.rows.proofs.Laws.{idle_fits, sound_fits}
 use Rattle.groups.specs.declared.store.Ending.{Ending}
 use Rattle.groups.specs.TicketIds.{ended_as}
-use Rattle.groups.specs.State.{State, fresh, written}
+use Rattle.groups.specs.State.{State, written}
+use Rattle.groups.specs.Beginning.{fresh}
 use Rattle.groups.proofs.ObeysLemmas.{fresh_obeys, written_obeys, ended_obeys, obeys_if}
 use Rattle.store.specs.Memory.{IsLawful}
 

@@ -5,7 +5,8 @@ use Rattle.std.proofs.lemmas.Bool.{cases_Bool, and_parts, and_from}
 use Rattle.rows.specs.declared.plain.LawBroken.{LawBroken}
 use Rattle.rows.specs.declared.plain.PlainRow.{PlainRow}
 use Rattle.rows.specs.declared.plain.Row.{Row}
-use Rattle.rows.specs.Law.{row_fits, places_fit, sound}
+use Rattle.rows.specs.Law.{row_fits}
+use Rattle.rows.specs.Storage.{places_fit, sound}
 use Rattle.rows.specs.Obeys.{rows_obey}
 use Rattle.rows.specs.StoredRows.{waiting, all_sound, plain_fits, Checked}
 use Rattle.rows.specs.Waiting.{at, among}

@@ -3,8 +3,7 @@ use Rattle.std.specs.Prelude.{ℕ, min, cond, nat_le}
 use Rattle.tables.specs.Tables.{jobs_max}
 use Rattle.groups.specs.Limits.{trail_max}
 use Rattle.histories.specs.Rules.{Parameters, fresh_book}
-use Rattle.store.specs.Books.{Fixed, PlainBook}
-use Rattle.store.specs.Plain.{plain}
+use Rattle.store.specs.Plain.{Fixed, PlainBook, plain}
 
 -- How many jobs a new book has: as many as are asked for, up to 256; none where 0 or more than 256 are.
 abbrev pub created : ℕ → ℕ

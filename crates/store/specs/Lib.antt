@@ -1,9 +1,6 @@
-pub mod Books
-pub mod Edits
-pub mod EditAnswers
-pub mod Plain
 pub mod Creation
 pub mod Faults
+pub mod Plain
 pub mod Replies
 pub mod Memory
 pub mod Snapshots

@@ -6,9 +6,8 @@ use Rattle.store.specs.declared.calls.Edit.TheVariants.{Grant, Request}
 use Rattle.store.specs.declared.fault.BookFault.{BookFault}
 use Rattle.store.specs.declared.fault.RefusedTicketId.{RefusedTicketId}
 use Rattle.store.specs.Faults.{number}
-use Rattle.store.specs.Edits.{requests, grants, Edit as EditCall}
-use Rattle.histories.specs.Answers.{Answer, done, ticket, returned}
-use Rattle.store.specs.EditAnswers.{refusal}
+use Rattle.store.specs.Plain.{requests, grants, Edit as EditCall, refusal}
+use Rattle.histories.specs.Calls.{Answer, done, ticket, returned}
 
 -- Of an edit: done, or its refusal.
 abbrev pub edit_reply : Result (Unit {0}) BookFault → Answer

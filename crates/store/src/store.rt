@@ -17,7 +17,7 @@ pub struct Store<'a> {
 impl<'a> Model for Store<'a> {
     ghost use Rattle.rows.specs.StoredRows.{waiting};
     ghost use Rattle.groups.specs.StateViews.{view as seen};
-    ghost use Rattle.store.specs.Books.{PlainBook, book_of};
+    ghost use Rattle.store.specs.Plain.{PlainBook, book_of};
     ghost use Rattle.store.specs.Memory.{IsLawful};
 
     ghost Value = { PlainBook };

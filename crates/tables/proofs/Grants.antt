@@ -9,8 +9,7 @@ use Rattle.std.proofs.lemmas.Bool.Decides.{nat_tests}
 use Rattle.rows.specs.Waiting.{Waiting, idle, at, among}
 use Rattle.rows.specs.Changes.{without, granted}
 use Rattle.tables.specs.Tables.{waits}
-use Rattle.tables.specs.ClosedSets.{count, IsClosed, IsLoosened}
-use Rattle.tables.specs.Grants.{Grant, IsAllowed, granted_rows, rows_after, LawfulGrants, CanBeFreed, LoosenedCanBeFreed}
+use Rattle.tables.specs.Grants.{count, IsClosed, IsLoosened, Grant, IsAllowed, granted_rows, rows_after, LawfulGrants, CanBeFreed, LoosenedCanBeFreed}
 use Rattle.tables.proofs.Laws.{who_waits_is_a_job}
 
 -- The two rules of a closed set as one.

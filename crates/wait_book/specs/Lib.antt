@@ -7,7 +7,6 @@ pub use Rattle.rows.specs.Law as RowLaw
 pub use Rattle.rows.specs.Changes
 pub use Rattle.rows.specs.StoredRows
 pub use Rattle.tables.specs.Tables
-pub use Rattle.tables.specs.ClosedSets
 pub use Rattle.tables.specs.Grants
 pub use Rattle.tables.specs.Walks
 -- Groups, calls and histories.
@@ -15,16 +14,13 @@ pub use Rattle.groups.specs.Limits as GroupLimits
 pub use Rattle.groups.specs.State
 pub use Rattle.groups.specs.History
 pub use Rattle.groups.specs.Representation
-pub use Rattle.histories.specs.Answers
 pub use Rattle.histories.specs.Calls
 pub use Rattle.histories.specs.Rules
 pub use Rattle.histories.specs.Histories
+pub use Rattle.histories.specs.CallSteps
 pub use Rattle.histories.specs.Machines
 -- The plain book, its tickets and its scripts.
-pub use Rattle.store.specs.Books
 pub use Rattle.store.specs.Creation
-pub use Rattle.store.specs.EditAnswers
-pub use Rattle.store.specs.Edits
 pub use Rattle.store.specs.Faults as BookFaults
 pub use Rattle.store.specs.Plain
 pub use Rattle.store.specs.Snapshots
@@ -39,15 +35,16 @@ pub use Rattle.scripts.specs.ScriptRuns
 pub use Rattle.scripts.specs.Scripts
 -- Carriers, the exchange and the detection.
 pub use Rattle.carriers.specs.Faults as CarrierFaults
+pub use Rattle.carriers.specs.Carriers
 pub use Rattle.carriers.specs.Meaning
 pub use Rattle.carriers.specs.Messages
 pub use Rattle.carriers.specs.CountedCarriers
+pub use Rattle.exchange.specs.Limits as ExchangeLimits
 pub use Rattle.exchange.specs.Bounds
 pub use Rattle.exchange.specs.Records
 pub use Rattle.exchange.specs.Rules as ExchangeRules
 pub use Rattle.exchange.specs.Runs
 pub use Rattle.detection.specs.Detected
-pub use Rattle.detection.specs.Detects
 pub use Rattle.detection.specs.Faults as DetectionFaults
 -- Charts and the reduction.
 pub use Rattle.chart.specs.Check
@@ -60,8 +57,8 @@ pub use Rattle.reduction.specs.Reduced
 -- Whole lives.
 pub use Rattle.lives.specs.Events
 pub use Rattle.lives.specs.Law as LifeLaw
-pub use Rattle.book.specs.Events as BookEvents
 pub use Rattle.book.specs.Law
+pub use Rattle.book.specs.Grants as BookGrants
 pub use Rattle.book.specs.Moments
 -- The types.
 pub use Rattle.exchange.specs.declared.record.RunRecord

@@ -2,11 +2,11 @@
 use Rattle.std.proofs.Common.{◌≡◌, true, List, ℕ, replicate, Result, Ok, Err, is_ok, OnOk, subst}
 use Rattle.wait_book.specs.History.{begun}
 use Rattle.wait_book.specs.CountedCarriers.{new_carrier}
-use Rattle.wait_book.specs.Meaning.{Carried}
+use Rattle.wait_book.specs.Carriers.{Carried}
 use Rattle.wait_book.specs.Records.{blank}
 use Rattle.wait_book.specs.RunRecord.{RunRecord}
 use Rattle.wait_book.specs.Rules.{parameters}
-use Rattle.wait_book.specs.Histories.{Represents}
+use Rattle.wait_book.specs.CallSteps.{Represents}
 use Rattle.wait_book.specs.ScriptRuns.{ScriptStep}
 use Rattle.wait_book.specs.Workspace.{workspace}
 use Rattle.wait_book.specs.Scripts.{RunsScript}
@@ -14,8 +14,7 @@ use Rattle.wait_book.specs.Machines.{history_machine}
 use Rattle.wait_book.specs.StoppedScript.{StoppedScript}
 use Rattle.wait_book.specs.FinishedScript.{FinishedScript}
 use Rattle.waits.specs.Outcome.{ComesOut}
-use Rattle.wait_book.specs.Plain.{plain}
-use Rattle.wait_book.specs.Books.{PlainBook}
+use Rattle.wait_book.specs.Plain.{plain, PlainBook}
 use Rattle.wait_book.specs.Creation.{new_book}
 
 pub comes_out : {s s' : PlainBook} {was records : List RunRecord} {before carrier : Carried} {script bytes bytes' : List ℕ} {a : Result FinishedScript StoppedScript}

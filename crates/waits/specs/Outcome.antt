@@ -3,9 +3,9 @@ use Rattle.std.specs.Prelude.{ℕ, ◌*◌, List, replicate, Result}
 use Rattle.wait_book.specs.CountedCarriers.{new_carrier}
 use Rattle.wait_book.specs.Records.{blank}
 use Rattle.wait_book.specs.RunRecord.{RunRecord}
-use Rattle.wait_book.specs.Meaning.{Carried}
+use Rattle.wait_book.specs.Carriers.{Carried}
 use Rattle.wait_book.specs.History.{History, begun}
-use Rattle.wait_book.specs.Edits.{Edit}
+use Rattle.wait_book.specs.Plain.{Edit, plain, Fixed}
 use Rattle.wait_book.specs.Rules.{Parameters}
 use Rattle.wait_book.specs.Scripts.{RunsScript}
 use Rattle.wait_book.specs.Workspace.{workspace}
@@ -14,10 +14,8 @@ use Rattle.wait_book.specs.StoppedScript.{StoppedScript}
 use Rattle.wait_book.specs.FinishedScript.{FinishedScript}
 use Rattle.wait_book.specs.Tables.{jobs_max, waits_max}
 use Rattle.wait_book.specs.GroupLimits.{trail_max}
-use Rattle.wait_book.specs.Bounds.{capacity_per_wait}
+use Rattle.wait_book.specs.ExchangeLimits.{capacity_per_wait}
 use Rattle.wait_book.specs.Creation.{new_parameters}
-use Rattle.wait_book.specs.Plain.{plain}
-use Rattle.wait_book.specs.Books.{Fixed}
 
 -- How many jobs the program's book has.
 abbrev pub program_jobs : ℕ

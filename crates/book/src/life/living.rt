@@ -1,11 +1,12 @@
 // Living a whole life.
 ghost use Rattle.std.specs.Prelude.{◌≡◌, ◌≤◌, length, take, drop, is_err, nat_lt, IfOk, IfErr};
-ghost use Rattle.book.specs.Law.{LawOfPlainBooks, GrantsAreAllowed};
+ghost use Rattle.book.specs.Law.{LawOfPlainBooks};
+ghost use Rattle.book.specs.Grants.{GrantsAreAllowed};
 ghost use Rattle.book.specs.Moments.{IsLife, written_by};
 ghost use Rattle.book.specs.LifeSteps.{IsStep};
 ghost use Rattle.scripts.specs.Workspace.{workspace};
 ghost use Rattle.histories.specs.Calls.{edits, opens, ends};
-ghost use Rattle.histories.specs.Histories.{CallStep};
+ghost use Rattle.histories.specs.CallSteps.{CallStep};
 ghost use Rattle.store.specs.Plain.{plain};
 ghost use Rattle.store.specs.Replies.{edit_reply, open_reply_by_id, end_reply_by_id, edit_of};
 

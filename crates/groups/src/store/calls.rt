@@ -2,7 +2,8 @@
 ghost use Rattle.std.specs.Prelude.{◌≡◌, ◌+◌, ◌≤◌, not, length, take, drop, is_ok, if◌then◌else◌, Some, None, Ok, Err, slice_index_or};
 ghost use Rattle.containers.specs.Held.{holding};
 ghost use Rattle.groups.specs.Limits.{row_count, depth_max};
-ghost use Rattle.groups.specs.State.{summary, full, can_open, fresh, written, opened, kept, cancelled, rolled_back, undo_record, state_with_undo_record};
+ghost use Rattle.groups.specs.State.{summary, full, can_open, written, opened, kept, cancelled, rolled_back, undo_record, state_with_undo_record};
+ghost use Rattle.groups.specs.Beginning.{fresh};
 ghost use Rattle.groups.specs.TicketIds.{fits, ended_as};
 
 use crate::store::{Ending, Groups, ROWS, TRAIL_MAX, TicketId, TrailFull, UndoRecord};

@@ -1,5 +1,5 @@
 // The small books as rows, and as books.
-ghost use Rattle.book.specs.Rules.{SameGroups};
+ghost use Rattle.book.specs.CallSteps.{SameGroups};
 
 use book::{Book, PlainRow, UndoRecord};
 use carriers::{Kind, Message, Wait};

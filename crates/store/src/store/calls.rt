@@ -5,15 +5,12 @@ ghost use Rattle.rows.specs.StoredRows.{waiting_of};
 ghost use Rattle.groups.specs.State.{summary, full, written};
 ghost use Rattle.groups.specs.History.{begun};
 ghost use Rattle.store.specs.declared.fault.BookFault.TheVariants.{TrailFull};
-ghost use Rattle.histories.specs.Calls.{edits, opens, ends};
-ghost use Rattle.store.specs.Edits.{requests, grants};
-ghost use Rattle.histories.specs.Answers.{done};
-ghost use Rattle.store.specs.EditAnswers.{refusal};
-ghost use Rattle.histories.specs.Histories.{Represents, CallStep};
+ghost use Rattle.histories.specs.Calls.{edits, opens, ends, done};
+ghost use Rattle.store.specs.Plain.{requests, grants, plain, refusal};
+ghost use Rattle.histories.specs.CallSteps.{Represents, CallStep};
 ghost use Rattle.store.specs.Creation.{created, new_book};
 ghost use Rattle.tables.specs.Tables.{jobs_max};
 ghost use Rattle.store.specs.Replies.{edit_reply, open_reply_by_id, end_reply_by_id, edit_of};
-ghost use Rattle.store.specs.Plain.{plain};
 ghost use Rattle.histories.specs.Rules.{book_state, says, after};
 
 use crate::calls::Edit;

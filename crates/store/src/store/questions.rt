@@ -1,7 +1,7 @@
 // What a book tells, as a table that is read both ways. Beyond the last job every row is idle.
 ghost use Rattle.std.specs.Prelude.{◌≡◌, ◌≤◌, true, length, IfSome};
 ghost use Rattle.rows.specs.Waiting.{at};
-ghost use Rattle.rows.specs.Law.{sound};
+ghost use Rattle.rows.specs.Storage.{sound};
 ghost use Rattle.rows.specs.StoredRows.{waiting_of, waiting_or_idle};
 ghost use Rattle.groups.specs.Limits.{depth_max};
 ghost use Rattle.store.specs.Snapshots.{snapshot_view};

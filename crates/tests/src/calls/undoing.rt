@@ -1,6 +1,6 @@
 // What kept and cancelled groups leave.
 ghost use Rattle.std.specs.Prelude.{◌≡◌, length};
-ghost use Rattle.book.specs.Rules.{SameGroups};
+ghost use Rattle.book.specs.CallSteps.{SameGroups};
 
 use crate::common::*;
 use book::{Book, Table};

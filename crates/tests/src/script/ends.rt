@@ -1,6 +1,6 @@
 // Scripts run on a book, with their ends told by numbers, as the rules tell them.
 ghost use Rattle.std.specs.Prelude.{◌≡◌, length};
-ghost use Rattle.book.specs.Rules.{SameGroups};
+ghost use Rattle.book.specs.CallSteps.{SameGroups};
 
 use crate::assembler::{Command, assembled};
 use crate::common::*;

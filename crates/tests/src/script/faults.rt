@@ -1,6 +1,6 @@
 // Each fault at the first, a middle and the last command.
 ghost use Rattle.std.specs.Prelude.{◌≡◌, length};
-ghost use Rattle.book.specs.Rules.{SameGroups};
+ghost use Rattle.book.specs.CallSteps.{SameGroups};
 
 use crate::assembler::Command::{Bytes, Cancel, Detect, Grant, Keep, Open, Request};
 use crate::assembler::{Command, assembled};

@@ -1,5 +1,5 @@
 use Rattle.lives.specs.Events.{detects, happens as does_so}
-use Rattle.book.specs.Events.{RunsOnBook}
+use Rattle.book.specs.Law.{RunsOnBook}
 use Rattle.store.specs.Plain.{plain}
 use Rattle.book.specs.Moments.{opening, ending, detecting, editing, running}
 use Rattle.lives.proofs.Lives.{call_does}

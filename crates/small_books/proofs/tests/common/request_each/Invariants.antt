@@ -1,4 +1,4 @@
-use Rattle.book.specs.Rules.{SameGroups}
+use Rattle.book.specs.CallSteps.{SameGroups}
 use Rattle.small_books.proofs.tests.common.request_each.Given as goal
 
 abbrev pub invariant-loop-job : goal.invariant-loop-job

@@ -2,16 +2,15 @@ use Rattle.std.proofs.Common.{length, sym, ap, ◌∙◌, subst}
 use Rattle.rows.specs.Waiting.{idle}
 use Rattle.rows.specs.StoredRows.{waiting}
 use Rattle.groups.specs.History.{begun}
-use Rattle.groups.specs.State.{fresh}
+use Rattle.groups.specs.Beginning.{fresh}
 use Rattle.groups.specs.StateViews.{view}
 use Rattle.groups.proofs.ViewLemmas.{view_fresh}
 use Rattle.store.specs.Creation.{new_parameters}
-use Rattle.store.specs.Plain.{plain}
-use Rattle.histories.specs.Histories.{Represents}
+use Rattle.store.specs.Plain.{plain, book_of}
+use Rattle.histories.specs.CallSteps.{Represents}
 use Rattle.histories.proofs.SimulationLemmas.{fresh_represents}
 use Rattle.store.proofs.LawfulMemory.{fresh_lawful}
 use Rattle.store.proofs.store.Store.new.Goals as goal
-use Rattle.store.specs.Books.{book_of}
 
 pub invariant_of-result : goal.invariant_of-result
 invariant_of-result c =

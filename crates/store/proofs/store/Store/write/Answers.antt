@@ -5,7 +5,7 @@ use Rattle.store.specs.declared.fault.BookFault.TheVariants.{TrailFull}
 use Rattle.histories.proofs.CallLemmas.{full_seen}
 use Rattle.store.proofs.AnswerLemmas.{carried_fault, write_lawful, write_seen}
 use Rattle.store.proofs.store.Store.write.Goals as goal
-use Rattle.store.specs.Books.{book_of}
+use Rattle.store.specs.Plain.{book_of}
 use Rattle.groups.specs.StateViews.{view}
 
 pub returns-in_err-write : goal.returns-in_err-write

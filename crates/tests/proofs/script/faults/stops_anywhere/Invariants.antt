@@ -1,4 +1,4 @@
-use Rattle.book.specs.Rules.{SameGroups}
+use Rattle.book.specs.CallSteps.{SameGroups}
 use Rattle.tests.proofs.script.faults.stops_anywhere.Given as goal
 
 abbrev pub invariant-loop-script : goal.invariant-loop-script
