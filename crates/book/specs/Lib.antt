@@ -14,7 +14,8 @@ pub use Rattle.store.specs.Plain
 pub use Rattle.store.specs.declared.fault.BookFault
 pub use Rattle.scripts.specs.Commands
 pub use Rattle.scripts.specs.Workspace
-pub use Rattle.scripts.specs.Limits
+pub use Rattle.scripts.specs.declared.run.TheConstants as ScriptConstants
+pub use Rattle.scripts.specs.declared.answer.TheConstants as AnswerConstants
 pub use Rattle.scripts.specs.ScriptCalls
 pub use Rattle.scripts.specs.ScriptFaults
 pub use Rattle.scripts.specs.ScriptRuns

@@ -5,7 +5,7 @@ ghost use Rattle.store.specs.Creation.{new_book};
 ghost use Rattle.store.specs.Replies.{edit_reply};
 ghost use Rattle.book.specs.Tickets.{open_reply, end_reply};
 ghost use Rattle.groups.specs.History.{begun};
-ghost use Rattle.groups.specs.Limits.{depth_max};
+ghost use Rattle.groups.specs.declared.store.TheConstants.{DEPTH_MAX};
 ghost use Rattle.histories.specs.Calls.{edits, opens, keeps, cancels, ends};
 ghost use Rattle.histories.specs.CallSteps.{CallStep, Represents, SameGroups};
 ghost use Rattle.histories.specs.Machines.{book_machine, view_of};
@@ -76,7 +76,7 @@ impl<'a> Book<'a> {
     /// nothing changed, where eight are open.
     pub fn open(&mut self) -> Result<Ticket, BookFault>
         ensures called { CallStep plain self.old opens (open_reply result) self.new }
-        ensures given { length self.old.state.groups < depth_max → IsOk result }
+        ensures given { length self.old.state.groups < DEPTH_MAX → IsOk result }
         ensures ticket { IfOk result (λ t. (t.mark ≡ self.old.state.mark) × (t.depth ≡ length self.old.state.groups + 1)) }
     {
         match self.store.open() {
@@ -126,7 +126,7 @@ impl<'a> Book<'a> {
     /// How many groups are open, from 0 to 8.
     pub fn depth(&self) -> usize
         ensures value { result ≡ length self.now.state.groups }
-        ensures bound { result ≤ depth_max }
+        ensures bound { result ≤ DEPTH_MAX }
     {
         self.store.depth()
     }

@@ -14,7 +14,8 @@ use Rattle.std.specs.Simd.{first_chunks}
 use Rattle.rows.proofs.Laws.{fits_counts}
 use Rattle.rows.proofs.ObeysLemmas.{map_obeys}
 use Rattle.rows.proofs.Places.{places_tell, places_of_targets_fit, targets_are_in_use}
-use Rattle.rows.specs.Law.{targets_max, row_fits}
+use Rattle.rows.specs.Law.{row_fits}
+use Rattle.rows.specs.declared.plain.TheConstants.{TARGETS_MAX}
 use Rattle.rows.specs.Obeys.{rows_obey}
 use Rattle.rows.specs.StoredRows.{places_of}
 use Rattle.rows.specs.Waiting.{Waiting, idle, at, target_at}
@@ -47,7 +48,7 @@ next_place w place target few less found row before =
 
 -- ---- one row
 
-module _ (w : Waiting) (few : length w.targets ≤ targets_max) where
+module _ (w : Waiting) (few : length w.targets ≤ TARGETS_MAX) where
   pub length-bytes_of_row : length (bytes_of_row w) ≡ 18
   length-bytes_of_row = let places = places_tell (length w.targets) (places_of w.targets) (places_of_targets_fit w.targets few) in omega (arith, places.whole)
 
@@ -59,7 +60,7 @@ module _ (w : Waiting) (few : length w.targets ≤ targets_max) where
 
 -- ---- all rows
 
-few_targets : (n job : ℕ) (w : Waiting) → row_fits n job w ≡ true → length w.targets ≤ targets_max
+few_targets : (n job : ℕ) (w : Waiting) → row_fits n job w ≡ true → length w.targets ≤ TARGETS_MAX
 few_targets n job w h = (fits_counts n job w h).few
 
 module _ (n : ℕ) where
@@ -133,7 +134,7 @@ table_reads_back (w ∷ ws) table =
 -- ---- the loop
 
 -- One more job's bytes are written behind the others.
-pub next_row : (rows : List Waiting) (job m : ℕ) (xs ys : List ℕ) → job < length rows → 18 * job ≤ length xs → ys ≡ bytes_of_row (at rows job) → length (at rows job).targets ≤ targets_max
+pub next_row : (rows : List Waiting) (job m : ℕ) (xs ys : List ℕ) → job < length rows → 18 * job ≤ length xs → ys ≡ bytes_of_row (at rows job) → length (at rows job).targets ≤ TARGETS_MAX
     → take (18 * job) xs ≡ bytes_of_rows (take job rows) → take (18 * (job + 1)) (put_mid (job * 18) m xs ys) ≡ bytes_of_rows (take (job + 1) rows)
 next_row rows job m xs ys less room e few before =
     let start : job * 18 ≡ 18 * job = omega arith in

@@ -4,11 +4,12 @@ use Rattle.std.specs.List.{enumerate_from}
 use Rattle.rows.specs.Waiting.{Waiting}
 use Rattle.rows.specs.Storage.{stored_fits}
 use Rattle.chart.specs.Faults.{Refusal, refused}
-use Rattle.chart.specs.Layout.{row_bytes, chart_max, need_byte, count_byte, target_bytes, row_of, job_count, bytes_of_jobs}
+use Rattle.chart.specs.Layout.{need_byte, count_byte, target_bytes, row_of, job_count, bytes_of_jobs}
+use Rattle.chart.specs.declared.bytes.TheConstants.{CHART_MAX, ROW_BYTES}
 
 -- No byte, a part of a row, or more than 256 rows.
 abbrev pub wrong_length : ℕ → Bool
-wrong_length len = len == 0 || (not (len % row_bytes == 0) || nat_lt chart_max len)
+wrong_length len = len == 0 || (not (len % ROW_BYTES == 0) || nat_lt CHART_MAX len)
 
 -- The bytes of `job`, one of n jobs, are right: they obey the law of a stored row, by which the target bytes that are not in use are 0.
 abbrev pub row_right : (n job : ℕ) → List ℕ → Bool

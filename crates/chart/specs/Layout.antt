@@ -1,17 +1,10 @@
 -- How rows lie in bytes.
 use Rattle.std.specs.Prelude.{ℕ, ◌*◌, ◌/◌, List, length, drop, slice_index}
+use Rattle.chart.specs.declared.bytes.TheConstants.{ROW_BYTES}
 use Rattle.std.specs.Simd.{first_chunks}
 use Rattle.rows.specs.Waiting.{Waiting}
 use Rattle.rows.specs.Storage.{stored}
-use Rattle.tables.specs.Tables.{jobs_max}
-
--- How many bytes a job has: its need, its number of targets, and sixteen target bytes.
-abbrev pub row_bytes : ℕ
-row_bytes = 18
-
--- How many bytes a chart has at most: those of 256 jobs.
-abbrev pub chart_max : ℕ
-chart_max = jobs_max * row_bytes
+use Rattle.tables.specs.declared.table.TheConstants.{JOBS_MAX}
 
 -- The need of a job is its first byte.
 abbrev pub need_byte : List ℕ → ℕ
@@ -31,8 +24,8 @@ row_of bytes = stored (need_byte bytes) (count_byte bytes) (target_bytes bytes)
 
 -- How many jobs have their bytes there: as many as there are whole rows.
 abbrev pub job_count : List ℕ → ℕ
-job_count bytes = length bytes / row_bytes
+job_count bytes = length bytes / ROW_BYTES
 
 -- The bytes of each of them.
 abbrev pub bytes_of_jobs : List ℕ → List (List ℕ)
-bytes_of_jobs bytes = first_chunks row_bytes (job_count bytes) bytes
+bytes_of_jobs bytes = first_chunks ROW_BYTES (job_count bytes) bytes

@@ -1,6 +1,6 @@
 // The bytes of rows, read where they lie.
 ghost use Rattle.std.specs.Prelude.{◌≡◌, ◌≤◌};
-ghost use Rattle.rows.specs.Law.{targets_max};
+ghost use Rattle.rows.specs.declared.plain.TheConstants.{TARGETS_MAX};
 ghost use Rattle.chart.specs.Layout.{need_byte, count_byte, target_bytes, row_of};
 ghost use Rattle.chart.specs.Check.{row_right, first_wrong_row};
 
@@ -41,7 +41,7 @@ pub fn count_in(row: &RowBytes) -> usize
 
 /// The target bytes in use.
 pub fn targets_in(row: &RowBytes) -> &[u8]
-    requires { count_byte row.now ≤ targets_max }
+    requires { count_byte row.now ≤ TARGETS_MAX }
     ensures { result.now ≡ (row_of row.now).targets }
 {
     &row[TARGETS..TARGETS + count_in(row)]

@@ -3,7 +3,7 @@ mod checks;
 mod reads;
 
 ghost use Rattle.std.specs.Prelude.{◌≡◌, ◌≤◌, true, length};
-ghost use Rattle.tables.specs.Tables.{jobs_max};
+ghost use Rattle.tables.specs.declared.table.TheConstants.{JOBS_MAX};
 ghost use Rattle.rows.specs.Obeys.{rows_obey};
 ghost use Rattle.chart.specs.Check.{row_right};
 
@@ -13,6 +13,6 @@ use crate::bytes::RowBytes;
 #[derive(Clone, Copy, Debug)]
 pub struct Chart<'a> {
     rows: &'a [RowBytes],
-    ghost few: { length rows.now ≤ jobs_max },
+    ghost few: { length rows.now ≤ JOBS_MAX },
     ghost right: { rows_obey (row_right (length rows.now)) 0 rows.now ≡ true },
 }

@@ -1,8 +1,8 @@
 // Writing a table as a chart.
 ghost use Rattle.std.specs.Prelude.{◌≡◌, ◌*◌, ◌≤◌, length, take, drop};
-ghost use Rattle.rows.specs.Law.{targets_max};
+ghost use Rattle.rows.specs.declared.plain.TheConstants.{TARGETS_MAX};
 ghost use Rattle.rows.specs.Waiting.{at};
-ghost use Rattle.chart.specs.Layout.{row_bytes, chart_max};
+ghost use Rattle.chart.specs.declared.bytes.TheConstants.{CHART_MAX, ROW_BYTES};
 ghost use Rattle.chart.specs.Writing.{bytes_of_row, bytes_of_rows, ReadsBack};
 
 use crate::bytes::{CHART_MAX, COUNT, NEED, ROW_BYTES, RowBytes, TARGETS};
@@ -13,8 +13,8 @@ use tables::Table;
 ///
 /// [`Chart::check`]: crate::Chart::check
 pub fn write_chart<T: Table>(table: &T, bytes: &mut [u8; CHART_MAX]) -> usize
-    ensures len { result ≡ row_bytes * length (T.Table.rows table.now) }
-    ensures bound { result ≤ chart_max }
+    ensures len { result ≡ ROW_BYTES * length (T.Table.rows table.now) }
+    ensures bound { result ≤ CHART_MAX }
     ensures written { take result bytes.new ≡ bytes_of_rows (T.Table.rows table.now) }
     ensures rest { drop result bytes.new ≡ drop result bytes.old }
     ensures reads_back { ReadsBack (T.Table.rows table.now) (take result bytes.new) }
@@ -29,7 +29,7 @@ pub fn write_chart<T: Table>(table: &T, bytes: &mut [u8; CHART_MAX]) -> usize
 
 // The bytes of a job.
 fn row_in_bytes<T: Table>(table: &T, job: usize) -> RowBytes
-    requires { length (at (T.Table.rows table.now) job).targets ≤ targets_max }
+    requires { length (at (T.Table.rows table.now) job).targets ≤ TARGETS_MAX }
     ensures { result ≡ bytes_of_row (at (T.Table.rows table.now) job) }
 {
     let count = table.target_count(job);

@@ -9,7 +9,7 @@ use Rattle.carriers.specs.Meaning.{Sent}
 use Rattle.carriers.specs.Carriers.{Carried}
 use Rattle.carriers.proofs.Sends.{sent_more, length-sent}
 use Rattle.rows.specs.Waiting.{Waiting, at, is_active}
-use Rattle.rows.specs.Law.{targets_max}
+use Rattle.rows.specs.declared.plain.TheConstants.{TARGETS_MAX}
 use Rattle.tables.specs.Tables.{waiters, IsTable}
 use Rattle.carriers.specs.Messages.{receiver_on}
 use Rattle.exchange.specs.Messages.{message, notify_messages, grant_messages}
@@ -31,7 +31,7 @@ module _ (rows : List Waiting) (j : ℕ) (r : RunRecord) where
 
 -- A GRANT finds a job that was granted less often than any row has targets.
 pub grant_finds_few_granted : {rows : List Waiting} → IsTable rows → {kind : Kind} (w : Wait) (r : RunRecord) → kind ≡ Grant → IsDue rows kind w r
-    → r.granted < targets_max
+    → r.granted < TARGETS_MAX
 grant_finds_few_granted {rows} tabled w r grant due =
     omega (arith, subst (λ (k : Kind). IsDue rows k w r) grant due, targets_are_few rows tabled w.waiter)
 

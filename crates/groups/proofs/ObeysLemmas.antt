@@ -8,7 +8,7 @@ use Rattle.rows.proofs.ObeysLemmas.{obeyed_at, set_obeys, replicate_obeys, take_
 use Rattle.groups.specs.declared.store.Ending.{Ending}
 use Rattle.groups.specs.declared.store.Ending.TheVariants.{Keep, Cancel}
 use Rattle.groups.specs.declared.store.UndoRecord.{UndoRecord}
-use Rattle.groups.specs.Limits.{row_count}
+use Rattle.groups.specs.declared.store.TheConstants.{ROWS}
 use Rattle.groups.specs.Obeys.{undo_records_obey, groups_obey, Obeys}
 use Rattle.groups.specs.State.{State, undo_record, with_undo_record, merged, rolled_back, restored, outside, written, kept, cancelled}
 use Rattle.groups.specs.Beginning.{fresh}
@@ -48,11 +48,11 @@ module _ {P : Type 0} (law : ℕ → P → Bool) where
   outside_obeys (g ∷ gs) l = (and_parts (undo_records_obey law g) _ l).1
 
   -- at creation
-  pub fresh_obeys : (row : P) (mark memory : ℕ) → ((k : ℕ) → law k row ≡ true) → Obeys law (fresh row_count row mark memory)
-  fresh_obeys row mark memory l = record { whole = length-replicate row_count row; rows = replicate_obeys law row_count 0 row l; undo_records = refl }
+  pub fresh_obeys : (row : P) (mark memory : ℕ) → ((k : ℕ) → law k row ≡ true) → Obeys law (fresh ROWS row mark memory)
+  fresh_obeys row mark memory l = record { whole = length-replicate ROWS row; rows = replicate_obeys law ROWS 0 row l; undo_records = refl }
 
   module _ (s : State P) (o : Obeys law s) where
-    pub written_obeys : (job : ℕ) (row : P) → job < row_count → law job row ≡ true → Obeys law (written s job row)
+    pub written_obeys : (job : ℕ) (row : P) → job < ROWS → law job row ≡ true → Obeys law (written s job row)
     written_obeys job row l here = record {
       whole = length-set s.rows job row ∙ o.whole;
       rows = set_obeys law s.rows job row here o.rows;
@@ -75,7 +75,7 @@ module _ {P : Type 0} (law : ℕ → P → Bool) where
     obeys_if false t k = o
 
     -- a row that is read off the first n
-    pub read_obeys : (n job : ℕ) (item : Option (Bor P)) → n ≤ row_count → IsGetResult (take n s.rows) job job item → IfSome item (λ p. law job p.now ≡ true)
+    pub read_obeys : (n job : ℕ) (item : Option (Bor P)) → n ≤ ROWS → IsGetResult (take n s.rows) job job item → IfSome item (λ p. law job p.now ≡ true)
     read_obeys n job None w l = tt
     read_obeys n job (Some p) w l =
         let within : job < n = omega (arith, l.3.0, length-take-le n s.rows (omega (arith, o.whole))) in

@@ -3,7 +3,7 @@ use Rattle.std.specs.Prelude.{◌≡◌, ℕ, Bool, true, List, length}
 use Rattle.std.specs.List.{list_all}
 use Rattle.rows.specs.Obeys.{rows_obey}
 use Rattle.groups.specs.declared.store.UndoRecord.{UndoRecord}
-use Rattle.groups.specs.Limits.{row_count}
+use Rattle.groups.specs.declared.store.TheConstants.{ROWS}
 use Rattle.groups.specs.State.{State}
 
 -- Every undo record obeys the law of its job.
@@ -16,6 +16,6 @@ groups_obey law groups = list_all (undo_records_obey law) groups
 
 -- The rows that groups keep obey the law of their jobs, and so do all that could be put back.
 pub record Obeys {P : Type 0} (law : ℕ → P → Bool) (s : State P) : Type 0 where
-  pub whole : length s.rows ≡ row_count
+  pub whole : length s.rows ≡ ROWS
   pub rows : rows_obey law 0 s.rows ≡ true
   pub undo_records : groups_obey law s.groups ≡ true

@@ -1,7 +1,7 @@
 -- Rows with open groups, and what each call makes of them.
 use Rattle.std.specs.Prelude.{ℕ, ◌+◌, Bool, ◌&&◌, List, [], ◌∷◌, ◌++◌, length, ◌==◌, nat_le, nat_lt, slice_index_or, slice_set}
 use Rattle.groups.specs.declared.store.UndoRecord.{UndoRecord}
-use Rattle.groups.specs.Limits.{depth_max}
+use Rattle.groups.specs.declared.store.TheConstants.{DEPTH_MAX}
 
 -- The rows; the undo records that each open group would put back, the innermost group first and in each the oldest first;
 -- the mark of the ticket ids; and how many undo records the trail has room for.
@@ -32,7 +32,7 @@ full trail_room f = nat_lt 0 f.depth && nat_le trail_room f.recorded
 
 -- One more group may be opened.
 abbrev pub can_open : {P : Type 0} → Summary P → Bool
-can_open f = nat_lt f.depth depth_max
+can_open f = nat_lt f.depth DEPTH_MAX
 
 -- A ticket id is the innermost group's: its mark is the right one, and its depth is the number of open groups, not 0.
 abbrev pub innermost : {P : Type 0} → ℕ → Summary P → (mark depth : ℕ) → Bool

@@ -89,13 +89,13 @@ pub struct Groups<'a, P> {
 
 impl<'a, P> Model for Groups<'a, P> {
     ghost use Rattle.std.specs.Prelude.{◌≡◌, min, true, length, reverse};
-    ghost use Rattle.groups.specs.Limits.{trail_max};
+    ghost use Rattle.groups.specs.declared.store.TheConstants.{TRAIL_MAX};
     ghost use Rattle.groups.specs.Memory.{parts, tidy};
     ghost use Rattle.groups.specs.State.{State};
 
     ghost Value = { State P };
 
-    ghost view = { λ g. record { rows = g.rows; groups = parts g.trail.items (reverse g.starts.items); mark = g.mark; trail_room = min g.trail.capacity trail_max } };
+    ghost view = { λ g. record { rows = g.rows; groups = parts g.trail.items (reverse g.starts.items); mark = g.mark; trail_room = min g.trail.capacity TRAIL_MAX } };
 
     ghost invariant = { λ g. tidy (length g.trail.items) (reverse g.starts.items) ≡ true };
 }

@@ -14,7 +14,8 @@ use Rattle.tables.proofs.Laws.{lawful_at, who_waits_is_a_job}
 use Rattle.tables.proofs.TargetLemmas.{among_push}
 use Rattle.tables.proofs.WaiterLemmas.{among_rising_is_not_below}
 use Rattle.reduction.specs.Marks.{loose, stuck, is_loose}
-use Rattle.tables.specs.Tables.{jobs_max, lawful}
+use Rattle.tables.specs.Tables.{lawful}
+use Rattle.tables.specs.declared.table.TheConstants.{JOBS_MAX}
 use Rattle.reduction.specs.Work.{Work, loose_count, is_processed, steps_left, NoneTwice, SoundMarks, Lacks, IsSaturated, IsCurrent, CanBeLoosened, with_loose, one_less, lowered, CanBeLowered, IsDecided}
 
 -- ---- counts
@@ -154,7 +155,7 @@ mark_base w i b m =
     }
 
 -- there is room in the queue for a job that is not marked
-pub queue_room_left : (w : Work) (i : ℕ) → SoundMarks w → CanBeLoosened w i → length w.queue < jobs_max
+pub queue_room_left : (w : Work) (i : ℕ) → SoundMarks w → CanBeLoosened w i → length w.queue < JOBS_MAX
 queue_room_left w i b m = omega (arith, b.few, b.size, not_all w i b m)
 
 -- what is queued more can be marked less
@@ -190,32 +191,32 @@ stuck_everywhere n v = elim (cases_lt v n) [
   | inr l ↦ ap (λ m. eqb m loose) (get_or_past (replicate n stuck) v stuck (omega (arith, length-replicate n stuck)))
 ]
 
-pub start_base : (rows : List Waiting) → lawful rows ≡ true → length rows ≤ jobs_max → SoundMarks (record { rows = rows; marks = replicate jobs_max stuck; lacking = replicate jobs_max 0; queue = [] })
+pub start_base : (rows : List Waiting) → lawful rows ≡ true → length rows ≤ JOBS_MAX → SoundMarks (record { rows = rows; marks = replicate JOBS_MAX stuck; lacking = replicate JOBS_MAX 0; queue = [] })
 start_base rows law l = record {
-  size = length-replicate jobs_max stuck;
-  counters = length-replicate {A = ℕ} jobs_max 0;
+  size = length-replicate JOBS_MAX stuck;
+  counters = length-replicate {A = ℕ} JOBS_MAX 0;
   lawful = law;
-  len = omega (arith, length-replicate jobs_max stuck);
-  bits = λ v h. inr (get_or-replicate jobs_max v stuck stuck (omega arith));
-  sound = λ v m. absurd (true≢false (sym m ∙ stuck_everywhere jobs_max v));
+  len = omega (arith, length-replicate JOBS_MAX stuck);
+  bits = λ v h. inr (get_or-replicate JOBS_MAX v stuck stuck (omega arith));
+  sound = λ v m. absurd (true≢false (sym m ∙ stuck_everywhere JOBS_MAX v));
   queued = λ v a. absurd (true≢false (sym a));
   once = tt;
   few = omega arith;
 }
 
-pub start_zero : (rows : List Waiting) → lawful rows ≡ true → length rows ≤ jobs_max → Started (record { rows = rows; marks = replicate jobs_max stuck; lacking = replicate jobs_max 0; queue = [] }) 0
+pub start_zero : (rows : List Waiting) → lawful rows ≡ true → length rows ≤ JOBS_MAX → Started (record { rows = rows; marks = replicate JOBS_MAX stuck; lacking = replicate JOBS_MAX 0; queue = [] }) 0
 start_zero rows law l = record {
   base = start_base rows law l;
-  later = λ v h. stuck_everywhere jobs_max v;
-  none = λ v. rw (stuck_everywhere jobs_max v);
+  later = λ v h. stuck_everywhere JOBS_MAX v;
+  none = λ v. rw (stuck_everywhere JOBS_MAX v);
   blocked = λ v h m. absurd (omega arith);
 }
 
 -- an empty queue, and no mark
-pub start_made : (rows : List Waiting) (queue : Held ℕ) → queue ≡ vacant jobs_max → lawful rows ≡ true → length rows ≤ jobs_max → SoundMarks (record { rows = rows; marks = replicate jobs_max stuck; lacking = replicate jobs_max 0; queue = queue.items }) × (queue.capacity ≡ jobs_max)
+pub start_made : (rows : List Waiting) (queue : Held ℕ) → queue ≡ vacant JOBS_MAX → lawful rows ≡ true → length rows ≤ JOBS_MAX → SoundMarks (record { rows = rows; marks = replicate JOBS_MAX stuck; lacking = replicate JOBS_MAX 0; queue = queue.items }) × (queue.capacity ≡ JOBS_MAX)
 start_made rows queue e law l = rw e (start_base rows law l, refl)
 
-pub start_first : (rows : List Waiting) (queue : Held ℕ) → queue ≡ vacant jobs_max → lawful rows ≡ true → length rows ≤ jobs_max → Started (record { rows = rows; marks = replicate jobs_max stuck; lacking = replicate jobs_max 0; queue = queue.items }) 0
+pub start_first : (rows : List Waiting) (queue : Held ℕ) → queue ≡ vacant JOBS_MAX → lawful rows ≡ true → length rows ≤ JOBS_MAX → Started (record { rows = rows; marks = replicate JOBS_MAX stuck; lacking = replicate JOBS_MAX 0; queue = queue.items }) 0
 start_first rows queue e law l = rw e (start_zero rows law l)
 
 pub start_skip : (w : Work) (i need : ℕ) → i < length w.rows → Started w i → need ≡ (at w.rows i).need → (need ≡ 0 → ⊥) → Started (record w { lacking = set w.lacking i need }) (i + 1)

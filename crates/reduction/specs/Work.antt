@@ -2,7 +2,8 @@
 use Rattle.std.specs.Prelude.{◌≡◌, ℕ, ◌+◌, ◌-◌, ◌<◌, ◌≤◌, Bool, true, false, cond, not, ◌&&◌, ◌⊎◌, ◌↔◌, List, [], ◌∷◌, ◌++◌, length, count_by, ◌==◌, nat_eq, slice_index, slice_index_or, slice_set}
 use Rattle.rows.specs.Waiting.{Waiting, at, among}
 use Rattle.tables.specs.Grants.{count, IsLoosened}
-use Rattle.tables.specs.Tables.{jobs_max, lawful}
+use Rattle.tables.specs.Tables.{lawful}
+use Rattle.tables.specs.declared.table.TheConstants.{JOBS_MAX}
 use Rattle.reduction.specs.Marks.{loose, stuck, is_loose}
 
 -- The rows of the table, the jobs' marks, how many targets each job that is not marked lacks, and the queued jobs: those that are marked,
@@ -33,8 +34,8 @@ NoneTwice (x ∷ xs) = (among x xs ≡ false) × NoneTwice xs
 -- There is a mark and a counter for each job, of a lawful table, and a mark is 0 or 1; marked jobs are loosened; each queued job is marked, and is queued
 -- once; and no more are queued than are marked.
 pub record SoundMarks (w : Work) : Type 0 where
-  pub size : length w.marks ≡ jobs_max
-  pub counters : length w.lacking ≡ jobs_max
+  pub size : length w.marks ≡ JOBS_MAX
+  pub counters : length w.lacking ≡ JOBS_MAX
   pub lawful : lawful w.rows ≡ true
   pub len : length w.rows ≤ length w.marks
   pub bits : (v : ℕ) → v < length w.rows → (slice_index_or w.marks v stuck ≡ loose) ⊎ (slice_index_or w.marks v stuck ≡ stuck)

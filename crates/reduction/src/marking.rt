@@ -1,7 +1,7 @@
 // A reduction at work: the marks of a table's jobs, and what those not marked lack.
 ghost use Rattle.std.specs.Prelude.{◌≡◌};
 ghost use Rattle.containers.specs.Held.{vacant};
-ghost use Rattle.tables.specs.Tables.{jobs_max};
+ghost use Rattle.tables.specs.declared.table.TheConstants.{JOBS_MAX};
 ghost use Rattle.reduction.specs.Work.{IsSaturated, IsCurrent, CanBeLoosened, CanBeLowered, steps_left, with_loose, lowered};
 
 use crate::marks::{LOOSE, STUCK};
@@ -22,7 +22,7 @@ pub(crate) struct Marking<'a, 'q, T: Table> {
 
 impl<'a, 'q, T: Table> Model for Marking<'a, 'q, T> {
     ghost use Rattle.std.specs.Prelude.{◌≡◌};
-    ghost use Rattle.tables.specs.Tables.{jobs_max};
+    ghost use Rattle.tables.specs.declared.table.TheConstants.{JOBS_MAX};
     ghost use Rattle.reduction.specs.Work.{Work, SoundMarks};
 
     ghost Value = { Work };
@@ -30,13 +30,13 @@ impl<'a, 'q, T: Table> Model for Marking<'a, 'q, T> {
     ghost view = { λ m. record { rows = T.Table.rows m.table.now.table.now; marks = m.marks; lacking = m.lacking; queue = m.queue.items } };
 
     ghost invariant = { λ m. SoundMarks (record { rows = T.Table.rows m.table.now.table.now; marks = m.marks; lacking = m.lacking; queue = m.queue.items })
-        × (m.queue.capacity ≡ jobs_max) };
+        × (m.queue.capacity ≡ JOBS_MAX) };
 }
 
 impl<'a, 'q, T: Table> Marking<'a, 'q, T> {
     // Marks the active jobs, and queues them; each other lacks all that it needs.
     pub(crate) fn begin(table: &'a Indexed<'a, T>, queue: Queue<'q, u8>) -> Marking<'a, 'q, T>
-        requires { queue ≡ vacant jobs_max }
+        requires { queue ≡ vacant JOBS_MAX }
         ensures rows { result.rows ≡ T.Table.rows table.now.table.now }
         ensures saturated { IsSaturated result }
     {

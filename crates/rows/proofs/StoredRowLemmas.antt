@@ -6,7 +6,8 @@ use borrow.Rule.Slice.PartMut.{put_mid}
 use Rattle.std.proofs.lemmas.List.Edits.{length-remove}
 use Rattle.std.proofs.lemmas.Bool.{and_parts, and_from}
 use Rattle.std.specs.List.{remove}
-use Rattle.rows.specs.Law.{targets_max, counts_fit, rising}
+use Rattle.rows.specs.Law.{counts_fit, rising}
+use Rattle.rows.specs.declared.plain.TheConstants.{TARGETS_MAX}
 use Rattle.rows.specs.Storage.{shaped, stored, places_fit, sound}
 use Rattle.rows.specs.Changes.{first_wrong}
 use Rattle.rows.specs.StoredRows.{places_of}
@@ -22,7 +23,7 @@ pub sound_uses_shaped : (need count : ℕ) (places used : List ℕ) → used ≡
 sound_uses_shaped need count places used e h =
     subst (λ (ts : List ℕ). shaped (record { need = need; targets = ts }) ≡ true) (sym e) (sound_parts need count places h).1
 
-shaped_few : (need : ℕ) (used : List ℕ) → shaped (record { need = need; targets = used }) ≡ true → length used ≤ targets_max
+shaped_few : (need : ℕ) (used : List ℕ) → shaped (record { need = need; targets = used }) ≡ true → length used ≤ TARGETS_MAX
 shaped_few need used h =
     let p = and_parts (counts_fit need (length used)) (rising 0 used) h in
     (fit_tells need (length used) p.0).few
@@ -47,7 +48,7 @@ put_together : (n : ℕ) (xs front back : List ℕ) → take n xs ≡ front → 
 put_together n xs front back f b = sym (take-append-drop n xs) ∙ rw (f, b) refl
 
 -- The targets without one: those before it, then those after it, and then zeros.
-pub stored_without_one : (ts zeros before after : List ℕ) (place left : ℕ) → zeros ≡ replicate targets_max 0 → place < length ts → left ≡ length ts - (place + 1) → before ≡ take place ts → after ≡ take left (drop (place + 1) ts)
+pub stored_without_one : (ts zeros before after : List ℕ) (place left : ℕ) → zeros ≡ replicate TARGETS_MAX 0 → place < length ts → left ≡ length ts - (place + 1) → before ≡ take place ts → after ≡ take left (drop (place + 1) ts)
     → put_mid place (length ts - 1 - place) (before ++ drop place zeros) after ≡ places_of (remove ts place)
 stored_without_one ts zeros before after place left z within rest b a =
     let one_more = add-one place in
@@ -59,12 +60,12 @@ stored_without_one ts zeros before after place left z within rest b a =
     let first : take (length ts - 1) made ≡ remove ts place =
     take-put_mid place (length ts - 1 - place) (before ++ drop place zeros) after (length ts - 1) (omega arith) (omega (arith, length-append {A = ℕ}))
     ∙ rw (take-append-le place before (drop place zeros) (omega arith), b, take-take place place ts (omega arith), a, all, one_more) in
-    let behind : drop (length ts - 1) made ≡ replicate (targets_max - length (remove ts place)) 0 =
+    let behind : drop (length ts - 1) made ≡ replicate (TARGETS_MAX - length (remove ts place)) 0 =
     drop-put_mid place (length ts - 1 - place) (before ++ drop place zeros) after (length ts - 1) (omega arith) (omega (arith, length-append {A = ℕ})) few
     ∙ drop-append-drop place zeros before (length ts - 1) (omega arith) size
-    ∙ fewer_zeros (length ts - 1) targets_max zeros z
-    ∙ ap (λ k. replicate (targets_max - k) 0) (sym kept) in
-    put_together (length ts - 1) made (remove ts place) (replicate (targets_max - length (remove ts place)) 0) first behind
+    ∙ fewer_zeros (length ts - 1) TARGETS_MAX zeros z
+    ∙ ap (λ k. replicate (TARGETS_MAX - k) 0) (sym kept) in
+    put_together (length ts - 1) made (remove ts place) (replicate (TARGETS_MAX - length (remove ts place)) 0) first behind
 
 -- What is stored without a wait.
 pub without_wait_stores_sound : (need place : ℕ) (used left : List ℕ) → shaped (record { need = need; targets = used }) ≡ true → 1 < need → place < length used → left ≡ places_of (remove used place) → sound (need - 1) (length used - 1) left ≡ true

@@ -1,11 +1,12 @@
 -- What a request and a grant make of one row.
 use Rattle.std.specs.Prelude.{ℕ, ◌+◌, ◌-◌, Bool, cond, ◌||◌, List, [], ◌∷◌, Some, None, Option, ◌==◌, nat_lt}
 use Rattle.rows.specs.Waiting.{Waiting, idle}
-use Rattle.rows.specs.Law.{targets_max, target_fits}
+use Rattle.rows.specs.Law.{target_fits}
+use Rattle.rows.specs.declared.plain.TheConstants.{TARGETS_MAX}
 
 -- A request is wrong in its counts: no target or more than 16, or a need of 0 or above the number of targets.
 abbrev pub wrong_counts : (need count : ℕ) → Bool
-wrong_counts need count = (count == 0 || nat_lt targets_max count) || (need == 0 || nat_lt count need)
+wrong_counts need count = (count == 0 || nat_lt TARGETS_MAX count) || (need == 0 || nat_lt count need)
 
 -- The place of the first target that is not below n, is the job itself or is not above the one before it;
 -- `place` is the place of the list's head, and targets below `low` are not above the one before.

@@ -1,14 +1,11 @@
 -- The row law: what every row obeys at all times.
 use Rattle.std.specs.Prelude.{ℕ, ◌+◌, Bool, true, cond, not, ◌&&◌, List, [], ◌∷◌, length, ◌==◌, nat_le, nat_lt}
+use Rattle.rows.specs.declared.plain.TheConstants.{TARGETS_MAX}
 use Rattle.rows.specs.Waiting.{Waiting}
-
--- How many targets a row has at most.
-abbrev pub targets_max : ℕ
-targets_max = 16
 
 -- Need 0 and no target, or a need from 1 to the number of targets, of which there are at most 16.
 abbrev pub counts_fit : (need count : ℕ) → Bool
-counts_fit need count = nat_le count targets_max && cond (need == 0) (count == 0) (nat_le need count)
+counts_fit need count = nat_le count TARGETS_MAX && cond (need == 0) (count == 0) (nat_le need count)
 
 -- Each target is above the one before it; the first is not below `low`.
 abbrev pub rising : (low : ℕ) → List ℕ → Bool

@@ -2,7 +2,8 @@
 use Rattle.std.specs.Prelude.{ℕ, Bool, ◌&&◌, List, length, take, drop, ◌==◌, nat_le}
 use Rattle.std.specs.List.{list_all}
 use Rattle.rows.specs.Waiting.{Waiting}
-use Rattle.rows.specs.Law.{targets_max, counts_fit, rising, row_fits}
+use Rattle.rows.specs.Law.{counts_fit, rising, row_fits}
+use Rattle.rows.specs.declared.plain.TheConstants.{TARGETS_MAX}
 
 -- The part of the law that needs no n and no job.
 abbrev pub shaped : Waiting → Bool
@@ -18,7 +19,7 @@ all_zero places = list_all (λ t. t == 0) places
 
 -- The places of a stored row: there are 16, the first `count` of them are in use, and the unused ones are 0.
 abbrev pub places_fit : (count : ℕ) → List ℕ → Bool
-places_fit count places = length places == targets_max && (nat_le count targets_max && all_zero (drop count places))
+places_fit count places = length places == TARGETS_MAX && (nat_le count TARGETS_MAX && all_zero (drop count places))
 
 -- A row as it is stored is sound: its places fit, and what it says is shaped.
 abbrev pub sound : (need count : ℕ) → List ℕ → Bool

@@ -10,7 +10,7 @@ use Rattle.rows.specs.declared.plain.LawBroken.{LawBroken}
 use Rattle.rows.specs.declared.plain.RowFault.{RowFault}
 use Rattle.rows.specs.declared.plain.RowFault.TheVariants.{WrongCounts, WrongTarget}
 use Rattle.rows.specs.Waiting.{Waiting, idle, among}
-use Rattle.rows.specs.Law.{targets_max}
+use Rattle.rows.specs.declared.plain.TheConstants.{TARGETS_MAX}
 use Rattle.rows.specs.Storage.{stored, sound, stored_fits}
 use Rattle.rows.specs.Changes.{wrong_counts, first_wrong, granted}
 
@@ -33,7 +33,7 @@ Checked p r = MatchResult r (λ row. (sound p.need p.count p.targets ≡ true) �
 
 -- The places of targets: they come first, and the places that they leave are 0.
 abbrev pub places_of : List ℕ → List ℕ
-places_of targets = targets ++ replicate (targets_max - length targets) 0
+places_of targets = targets ++ replicate (TARGETS_MAX - length targets) 0
 
 -- How a row is stored, which is decided by its need and its targets.
 abbrev pub stored_as : Waiting → PlainRow

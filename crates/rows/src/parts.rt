@@ -2,7 +2,8 @@
 ghost use Rattle.std.specs.Prelude.{◌≡◌, ◌<◌, ◌≤◌, length};
 ghost use Rattle.std.specs.List.{remove};
 ghost use Rattle.rows.specs.Waiting.{among};
-ghost use Rattle.rows.specs.Law.{targets_max, counts_fit, rising, row_fits};
+ghost use Rattle.rows.specs.Law.{counts_fit, rising, row_fits};
+ghost use Rattle.rows.specs.declared.plain.TheConstants.{TARGETS_MAX};
 ghost use Rattle.rows.specs.Storage.{all_zero, places_fit};
 ghost use Rattle.rows.specs.Changes.{first_wrong};
 ghost use Rattle.rows.specs.Places.{IsPlaceOf};
@@ -82,7 +83,7 @@ pub fn places_fit(count: usize, places: &[u8]) -> bool
 
 /// The targets at the first places, and 0 at the others.
 pub fn padded(targets: &[u8]) -> [u8; TARGETS_MAX]
-    requires { length targets.now ≤ targets_max }
+    requires { length targets.now ≤ TARGETS_MAX }
     ensures { result ≡ places_of targets.now }
 {
     let mut places = [0; TARGETS_MAX];
@@ -92,7 +93,7 @@ pub fn padded(targets: &[u8]) -> [u8; TARGETS_MAX]
 
 /// The targets but the one at a place, at the first places, and 0 at the others.
 pub fn without_place(targets: &[u8], place: usize) -> [u8; TARGETS_MAX]
-    requires { (length targets.now ≤ targets_max) × (place < length targets.now) }
+    requires { (length targets.now ≤ TARGETS_MAX) × (place < length targets.now) }
     ensures { result ≡ places_of (remove targets.now place) }
 {
     let mut left = [0; TARGETS_MAX];

@@ -42,9 +42,9 @@ module _ (c : Command) (n : ℕ) where
   grant_bytes (granter ∷ []) e = absurd (cc e)
   grant_bytes (granter ∷ (waiter ∷ rest)) e = begin_same _ _ c n e (record { count = refl; first = refl })
 
-  detection_bytes : (operands : List ℕ) → detection_head operands ≡ whole c n → BeginWith (68 ∷ operands) c n
-  detection_bytes [] e = absurd (cc e)
-  detection_bytes (job ∷ rest) e = begin_same _ _ c n e (record { count = refl; first = refl })
+  DETECTION_BYTES : (operands : List ℕ) → detection_head operands ≡ whole c n → BeginWith (68 ∷ operands) c n
+  DETECTION_BYTES [] e = absurd (cc e)
+  DETECTION_BYTES (job ∷ rest) e = begin_same _ _ c n e (record { count = refl; first = refl })
 
   letter_bytes : (letter : ℕ) (operands : List ℕ) (r g o k x d : Bool) → nat_eq letter 82 ≡ r → nat_eq letter 71 ≡ g → nat_eq letter 79 ≡ o → nat_eq letter 75 ≡ k → nat_eq letter 67 ≡ x → nat_eq letter 68 ≡ d
       → cond r (request_head operands) (cond g (grant_head operands) (cond o (whole opening 1) (cond k (whole (ending Keep) 1) (cond x (whole (ending Cancel) 1) (cond d (detection_head operands) unknown))))) ≡ whole c n
@@ -54,7 +54,7 @@ module _ (c : Command) (n : ℕ) where
   letter_bytes letter operands false false true k x d _ _ is _ _ _ e = rw (eqb-true letter 79 is) (begin_same _ _ c n e (record { count = refl; first = refl }))
   letter_bytes letter operands false false false true x d _ _ _ is _ _ e = rw (eqb-true letter 75 is) (begin_same _ _ c n e (record { count = refl; first = refl }))
   letter_bytes letter operands false false false false true d _ _ _ _ is _ e = rw (eqb-true letter 67 is) (begin_same _ _ c n e (record { count = refl; first = refl }))
-  letter_bytes letter operands false false false false false true _ _ _ _ _ is e = rw (eqb-true letter 68 is) (detection_bytes operands e)
+  letter_bytes letter operands false false false false false true _ _ _ _ _ is e = rw (eqb-true letter 68 is) (DETECTION_BYTES operands e)
   letter_bytes letter operands false false false false false false _ _ _ _ _ _ e = absurd (cc e)
 
   pub head_bytes : (bytes : List ℕ) → head bytes ≡ whole c n → BeginWith bytes c n

@@ -12,7 +12,7 @@ use Rattle.store.specs.Plain.{Edit, plain, PlainBook}
 use Rattle.scripts.specs.Commands.{Command, makes, opening, ending, detecting, whole, head}
 use Rattle.scripts.specs.Workspace.{Workspace}
 use Rattle.scripts.specs.Scripts.{Progress, CarriesOut, edited, opened, ended, answered, carried_out, refused, no_command, ReadAll, finishes, faults, steps, cancel_groups, start, script_answer, RunsCommands, Refused, RunsScript}
-use Rattle.scripts.specs.Limits.{script_max}
+use Rattle.scripts.specs.declared.run.TheConstants.{SCRIPT_MAX}
 use Rattle.scripts.specs.ScriptCalls.{command_bytes, carried_bytes, script_commands, groups_after, EndsOwnGroups, command_calls, cancelling_calls, after_calls, AllAccepted, CountsAs}
 use Rattle.scripts.specs.declared.fault.ScriptFault.{ScriptFault}
 use Rattle.scripts.specs.declared.fault.StoppedScript.{StoppedScript}
@@ -243,7 +243,7 @@ module _ {X : Type 0} (S : Machine Waiting Edit X) where
     counts_if false l m script a w = worked_counts w
 
     pub scripted_counts : {x y : X} (l m : Workspace) (script : List ℕ) (a : Result FinishedScript StoppedScript) → RunsScript S x l script a y m → CountsAs S x script a y
-    scripted_counts l m script a w = counts_if (nat_lt script_max (length script)) l m script a w
+    scripted_counts l m script a w = counts_if (nat_lt SCRIPT_MAX (length script)) l m script a w
 
 -- a script that a book runs
 pub ran_counts : {s s' : PlainBook} {l l' : Workspace} {script : List ℕ} {a : Result FinishedScript StoppedScript} → ScriptStep s l script a s' l' → CountsAs (book_machine plain) s script a s'

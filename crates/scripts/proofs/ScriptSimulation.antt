@@ -16,7 +16,7 @@ use Rattle.histories.specs.Rules.{Parameters, parameters}
 use Rattle.scripts.specs.Workspace.{Workspace}
 use Rattle.scripts.specs.ScriptRuns.{ScriptStep}
 use Rattle.scripts.specs.Scripts.{Progress, CarriesOut, edited, opened, ended, answered, Stops, not_edited, not_opened, no_group, no_space, not_detected, ReadStep, carried_out, refused, no_command, ReadAll, finishes, faults, steps, cancel_groups, script_answer, RunsCommands, Refused, RunsScript}
-use Rattle.scripts.specs.Limits.{script_max}
+use Rattle.scripts.specs.declared.run.TheConstants.{SCRIPT_MAX}
 use Rattle.histories.specs.Machines.{book_machine, history_machine}
 use Rattle.histories.proofs.BookBesideHistory.{Stands, same_answer, stands_after, same_ending, same_rows, same_mark, same_depth}
 
@@ -90,12 +90,12 @@ module _ (t : Parameters Fixed) where
 
   pub scripted_so : {s s' : PlainBook} (l l' : Workspace) (script : List ℕ) (a : Result FinishedScript StoppedScript) {h : History Edit} → Stands plain t s h → RunsScript (book_machine plain) s l script a s' l'
       → (i : History Edit) × RunsScript (history_machine plain t) h l script a i l' × Stands plain t s' i
-  scripted_so l l' script a w k = scripted_if (nat_lt script_max (length script)) l l' script a w k
+  scripted_so l l' script a w k = scripted_if (nat_lt SCRIPT_MAX (length script)) l l' script a w k
 
 pub ran : {s s' : PlainBook} (l l' : Workspace) (script : List ℕ) (a : Result FinishedScript StoppedScript) → RunsScript (book_machine plain) s l script a s' l' → ScriptStep s l script a s' l'
 ran {s} l l' script a k = record { does = k; represents = λ h w. let r = scripted_so (parameters s) l l' script a (record { same_parameters = refl; represents = w }) k in (r.0, r.1, r.2.represents) }
 
 -- a script that is not too long
-pub worked_ran : {s s' : PlainBook} {l l' : Workspace} {script : List ℕ} {a : Result FinishedScript StoppedScript} → length script ≤ script_max → RunsCommands (book_machine plain) s l script a s' l' → ScriptStep s l script a s' l'
+pub worked_ran : {s s' : PlainBook} {l l' : Workspace} {script : List ℕ} {a : Result FinishedScript StoppedScript} → length script ≤ SCRIPT_MAX → RunsCommands (book_machine plain) s l script a s' l' → ScriptStep s l script a s' l'
 worked_ran {s} {s'} {l} {l'} {script} {a} fits k =
-    ran l l' script a (subst (λ q. MatchBool q (Refused (book_machine plain) s l a s' l') (RunsCommands (book_machine plain) s l script a s' l')) (sym (le-ltb script_max (length script) fits)) k)
+    ran l l' script a (subst (λ q. MatchBool q (Refused (book_machine plain) s l a s' l') (RunsCommands (book_machine plain) s l script a s' l')) (sym (le-ltb SCRIPT_MAX (length script) fits)) k)

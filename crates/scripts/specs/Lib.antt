@@ -1,4 +1,3 @@
-pub mod Limits
 pub mod Workspace
 pub mod Commands
 pub mod ScriptFaults

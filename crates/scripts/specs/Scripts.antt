@@ -12,7 +12,8 @@ use Rattle.histories.specs.Calls.{done, ticket, stopped, Call, edits, opens, can
 use Rattle.store.specs.Plain.{Edit}
 use Rattle.scripts.specs.Commands.{Command, makes, opening, ending, detecting, Head, over, unknown, cut, whole, head}
 use Rattle.scripts.specs.Workspace.{Workspace}
-use Rattle.scripts.specs.Limits.{script_max, detection_bytes}
+use Rattle.scripts.specs.declared.answer.TheConstants.{DETECTION_BYTES}
+use Rattle.scripts.specs.declared.run.TheConstants.{SCRIPT_MAX}
 use Rattle.histories.specs.Machines.{Machine}
 use Rattle.scripts.specs.declared.fault.ScriptFault.{ScriptFault}
 use Rattle.scripts.specs.ScriptFaults.{LayeredRefusal, refusal_of, by_script, by_book, by_detection}
@@ -61,7 +62,7 @@ module _ {X : Type 0} (S : Machine Waiting Edit X) where
   after_detection p job d is after = record {
     current = p.current;
     workspace = record { records = is; carrier = after; bytes = with_answer p.workspace.bytes p.written (answer_bytes job d) };
-    written = p.written + detection_bytes;
+    written = p.written + DETECTION_BYTES;
     groups = p.groups;
   }
 
@@ -71,7 +72,7 @@ module _ {X : Type 0} (S : Machine Waiting Edit X) where
     opened : {p : Progress X} {mark depth : ℕ} → S.says p.current opens ≡ ticket mark depth → CarriesOut p opening (after_call p opens (p.groups + 1))
     ended : {p : Progress X} {e : Ending} → 0 < p.groups → S.says p.current (ends_innermost p.current e) ≡ done
         → CarriesOut p (ending e) (after_call p (ends_innermost p.current e) (p.groups - 1))
-    answered : {p : Progress X} {job : ℕ} {d : Detection} {is : List RunRecord} {after : Carried} → p.written + detection_bytes ≤ length p.workspace.bytes
+    answered : {p : Progress X} {job : ℕ} {d : Detection} {is : List RunRecord} {after : Carried} → p.written + DETECTION_BYTES ≤ length p.workspace.bytes
         → Detects (S.rows p.current) job p.workspace.records is p.workspace.carrier after (Ok d) → CarriesOut p (detecting job) (after_detection p job d is after)
 
   -- A fault stops a command: the script's own checks come first, 16 and 17, and then those of the call. Which fault it is, is told by the
@@ -82,9 +83,9 @@ module _ {X : Type 0} (S : Machine Waiting Edit X) where
     not_opened : {p : Progress X} {number : ℕ} {value : Option ℕ} {fault : ScriptFault} → S.says p.current opens ≡ stopped number value
         → refusal_of fault ≡ by_book number value → Stops p opening fault
     no_group : {p : Progress X} {e : Ending} {fault : ScriptFault} → p.groups ≡ 0 → refusal_of fault ≡ by_script 16 → Stops p (ending e) fault
-    no_space : {p : Progress X} {job : ℕ} {fault : ScriptFault} → length p.workspace.bytes < p.written + detection_bytes → refusal_of fault ≡ by_script 17
+    no_space : {p : Progress X} {job : ℕ} {fault : ScriptFault} → length p.workspace.bytes < p.written + DETECTION_BYTES → refusal_of fault ≡ by_script 17
         → Stops p (detecting job) fault
-    not_detected : {p : Progress X} {job number : ℕ} {fault : ScriptFault} → p.written + detection_bytes ≤ length p.workspace.bytes
+    not_detected : {p : Progress X} {job number : ℕ} {fault : ScriptFault} → p.written + DETECTION_BYTES ≤ length p.workspace.bytes
         → stop (S.rows p.current) job (length p.workspace.records) p.workspace.carrier ≡ Some number → refusal_of fault ≡ by_detection number
         → Stops p (detecting job) fault
 
@@ -139,4 +140,4 @@ module _ {X : Type 0} (S : Machine Waiting Edit X) where
 
   -- More than 8,192 bytes are refused; any other script is worked.
   abbrev pub RunsScript : X → Workspace → List ℕ → Result FinishedScript StoppedScript → X → Workspace → Type 0
-  RunsScript x workspace script answer x' workspace' = MatchBool (nat_lt script_max (length script)) (Refused x workspace answer x' workspace') (RunsCommands x workspace script answer x' workspace')
+  RunsScript x workspace script answer x' workspace' = MatchBool (nat_lt SCRIPT_MAX (length script)) (Refused x workspace answer x' workspace') (RunsCommands x workspace script answer x' workspace')

@@ -2,19 +2,20 @@
 use Rattle.std.specs.Prelude.{ℕ, ◌+◌, ◌*◌, true, false, List, [], ◌∷◌, ◌++◌, replicate, Some, None, Ok, Err}
 use Rattle.carriers.specs.CountedCarriers.{new_carrier}
 use Rattle.rows.specs.Waiting.{idle}
-use Rattle.rows.specs.Law.{targets_max}
-use Rattle.tables.specs.Tables.{jobs_max, waits_max}
-use Rattle.groups.specs.Limits.{trail_max, depth_max}
+use Rattle.rows.specs.declared.plain.TheConstants.{TARGETS_MAX}
+use Rattle.tables.specs.declared.table.TheConstants.{WAITS_MAX, JOBS_MAX}
+use Rattle.groups.specs.declared.store.TheConstants.{TRAIL_MAX, DEPTH_MAX}
 use Rattle.exchange.specs.Records.{blank}
 use Rattle.exchange.specs.Limits.{deliveries_per_wait, capacity_per_wait}
 use Rattle.chart.specs.Faults.{refused as chart_refused}
-use Rattle.chart.specs.Layout.{row_bytes, chart_max}
+use Rattle.chart.specs.declared.bytes.TheConstants.{CHART_MAX, ROW_BYTES}
 use Rattle.book.specs.Calls.{done, ticket, stopped, returned, Call, opens, keeps, cancels}
 use Rattle.book.specs.Rules.{after}
 use Rattle.book.specs.Plain.{Edit, plain, PlainBook}
 use Rattle.book.specs.Creation.{new_book}
 use Rattle.book.specs.Workspace.{Workspace, workspace}
-use Rattle.book.specs.Limits.{script_max, detection_bytes}
+use Rattle.book.specs.AnswerConstants.{DETECTION_BYTES}
+use Rattle.book.specs.ScriptConstants.{SCRIPT_MAX}
 use Rattle.book.specs.ScriptCalls.{after_calls}
 use Rattle.book.specs.ScriptFaults.{by_book}
 use Rattle.book.specs.Machines.{book_machine}
@@ -24,19 +25,19 @@ use Rattle.small_books.specs.Lines.{Line, finished, faulted, asked, called, refu
 -- The limits.
 abbrev pub limit_lines : List Line
 limit_lines =
-    limited jobs_max 256
-    ∷ limited targets_max 16
-    ∷ limited waits_max 4096
-    ∷ limited trail_max 1024
-    ∷ limited depth_max 8
-    ∷ limited row_bytes 18
-    ∷ limited chart_max 4608
-    ∷ limited script_max 8192
-    ∷ limited detection_bytes 4
+    limited JOBS_MAX 256
+    ∷ limited TARGETS_MAX 16
+    ∷ limited WAITS_MAX 4096
+    ∷ limited TRAIL_MAX 1024
+    ∷ limited DEPTH_MAX 8
+    ∷ limited ROW_BYTES 18
+    ∷ limited CHART_MAX 4608
+    ∷ limited SCRIPT_MAX 8192
+    ∷ limited DETECTION_BYTES 4
     ∷ limited capacity_per_wait 2
-    ∷ limited (capacity_per_wait * waits_max) 8192
+    ∷ limited (capacity_per_wait * WAITS_MAX) 8192
     ∷ limited deliveries_per_wait 4
-    ∷ limited (deliveries_per_wait * waits_max) 16384
+    ∷ limited (deliveries_per_wait * WAITS_MAX) 16384
     ∷ []
 
 -- The runs.
@@ -105,7 +106,7 @@ grant_lines =
 -- around the innermost, or has another mark. What a keeping hands to the group around it is undone when this is cancelled.
 abbrev pub group_lines : List Line
 group_lines =
-    refused (left_by b2_book (replicate depth_max opens)) opens (stopped 8 None)
+    refused (left_by b2_book (replicate DEPTH_MAX opens)) opens (stopped 8 None)
     ∷ refused b2_book (cancels 7 1) (returned 9 7 1)
     ∷ refused (left_by b2_book (opens ∷ opens ∷ [])) (keeps 7 1) (returned 9 7 1)
     ∷ refused (left_by b2_book (opens ∷ [])) (keeps 8 1) (returned 9 8 1)
@@ -132,7 +133,7 @@ chart_lines =
     ∷ charted chart_with_a_stray_byte (Err (chart_refused 19 (Some 2))) []
     ∷ charted [] (Err (chart_refused 18 None)) []
     ∷ charted (0 ∷ b4_chart) (Err (chart_refused 18 None)) []
-    ∷ charted (replicate (chart_max + row_bytes) 0) (Err (chart_refused 18 None)) []
+    ∷ charted (replicate (CHART_MAX + ROW_BYTES) 0) (Err (chart_refused 18 None)) []
     ∷ []
 
 -- Reductions: 0 for each job that is loosened, and else 1.
@@ -145,10 +146,10 @@ reduction_lines =
 -- The book of the program `waits`, and what the program lends to a script: a record for each job, a carrier in which nothing waits, and the
 -- answer bytes. Any mark would do, since a script hands out no ticket.
 abbrev pub program_book : PlainBook
-program_book = new_book jobs_max 7 trail_max
+program_book = new_book JOBS_MAX 7 TRAIL_MAX
 
 abbrev pub program_workspace : Workspace
-program_workspace = workspace (replicate jobs_max blank) (new_carrier (capacity_per_wait * waits_max)) (replicate 16384 0)
+program_workspace = workspace (replicate JOBS_MAX blank) (new_carrier (capacity_per_wait * WAITS_MAX)) (replicate 16384 0)
 
 -- Two scripts of that program. Jobs 0 and 1 come to wait for each other, and a detection is made from 0. And 1 grants 0 a wait that is not
 -- there.

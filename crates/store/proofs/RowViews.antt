@@ -11,7 +11,8 @@ use Rattle.rows.specs.Obeys.{rows_obey}
 use Rattle.rows.specs.StoredRows.{waiting, all_sound, plain_fits, Checked}
 use Rattle.rows.specs.Waiting.{at, among}
 use Rattle.rows.proofs.Laws.{fits_sound}
-use Rattle.tables.specs.Tables.{jobs_max, lawful}
+use Rattle.tables.specs.Tables.{lawful}
+use Rattle.tables.specs.declared.table.TheConstants.{JOBS_MAX}
 use Rattle.tables.proofs.Laws.{target_below}
 use Rattle.groups.specs.State.{State}
 use Rattle.groups.specs.StateViews.{view}
@@ -63,6 +64,6 @@ module _ (n : ℕ) (s : State PlainRow) (l : IsLawful n s) where
       (cases_Bool (among job (at (view n waiting s).rows waiter).targets))
 
 -- So it is of stored rows without groups.
-pub snapshot_is_lawful : (n : ℕ) (rows : List PlainRow) → n ≤ jobs_max → length rows ≡ 256 → rows_obey (plain_fits n) 0 rows ≡ true → lawful (map waiting (take n rows)) ≡ true
+pub snapshot_is_lawful : (n : ℕ) (rows : List PlainRow) → n ≤ JOBS_MAX → length rows ≡ 256 → rows_obey (plain_fits n) 0 rows ≡ true → lawful (map waiting (take n rows)) ≡ true
 snapshot_is_lawful n rows few whole o =
     lawful_seen n (record { rows = rows; groups = []; mark = 0; trail_room = 0 }) (record { few = few; obeys = record { whole = whole; rows = o; undo_records = refl } })

@@ -4,7 +4,7 @@ mod shows;
 ghost use Rattle.std.specs.Prelude.{◌≡◌, ◌≤◌, true};
 ghost use Rattle.rows.specs.Obeys.{rows_obey};
 ghost use Rattle.rows.specs.StoredRows.{plain_fits};
-ghost use Rattle.tables.specs.Tables.{jobs_max};
+ghost use Rattle.tables.specs.declared.table.TheConstants.{JOBS_MAX};
 
 use groups::ROWS;
 use rows::PlainRow;
@@ -16,6 +16,6 @@ pub struct Snapshot {
     pub(crate) jobs: usize,
     pub(crate) rows: [PlainRow; ROWS],
     pub(crate) depth: usize,
-    ghost few: { jobs ≤ jobs_max },
+    ghost few: { jobs ≤ JOBS_MAX },
     ghost lawful: { rows_obey (plain_fits jobs) 0 rows ≡ true },
 }

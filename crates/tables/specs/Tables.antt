@@ -1,17 +1,11 @@
 -- What a table tells of its rows.
 use Rattle.std.specs.Prelude.{◌≡◌, ℕ, ◌+◌, ◌*◌, ◌≤◌, Bool, true, cond, List, [], ◌∷◌, length, sum_by, Option, nat_le}
+use Rattle.tables.specs.declared.table.TheConstants.{JOBS_MAX}
 use Rattle.std.specs.List.{find}
 use Rattle.rows.specs.Waiting.{Waiting, among}
-use Rattle.rows.specs.Law.{targets_max, row_fits}
+use Rattle.rows.specs.Law.{row_fits}
+use Rattle.rows.specs.declared.plain.TheConstants.{TARGETS_MAX}
 use Rattle.rows.specs.Obeys.{rows_obey}
-
--- How many jobs a table has at most.
-abbrev pub jobs_max : ℕ
-jobs_max = 256
-
--- How many waits a table has at most.
-abbrev pub waits_max : ℕ
-waits_max = jobs_max * targets_max
 
 -- The rows of a table obey the row law.
 abbrev pub lawful : List Waiting → Bool
@@ -19,7 +13,7 @@ lawful rows = rows_obey (row_fits (length rows)) 0 rows
 
 -- What every table promises of its rows: there are at most 256, and they obey the row law.
 pub record IsTable (rows : List Waiting) : Type 0 where
-  pub few : length rows ≤ jobs_max
+  pub few : length rows ≤ JOBS_MAX
   pub lawful : lawful rows ≡ true
 
 -- How many waits a table has: every target in every row is one.

@@ -1,7 +1,8 @@
 // A table whose waiters are found by an index: a bit for each two jobs, set in one pass over the rows.
 ghost use Rattle.std.specs.Prelude.{◌≡◌, ◌<◌, ◌≤◌, ◌^◌, length};
 ghost use Rattle.rows.specs.Waiting.{at};
-ghost use Rattle.tables.specs.Tables.{jobs_max, waits_max, waits as waits_of};
+ghost use Rattle.tables.specs.Tables.{waits as waits_of};
+ghost use Rattle.tables.specs.declared.table.TheConstants.{WAITS_MAX, JOBS_MAX};
 ghost use Rattle.tables.specs.BitMatrix.{MarksWaits, MarkedToo, RowMarked, ShowsWaiters, FirstUpTo, word_end};
 
 use crate::table::{JOBS_MAX, Table, TwoWayTable};
@@ -52,7 +53,7 @@ impl<'a, T: Table> Indexed<'a, T> {
 
     // The first waiter of a job from a number on, as far as one word tells.
     fn first_in_word(&self, job: usize, from: usize) -> Option<usize>
-        requires { (job < jobs_max) × (from < jobs_max) }
+        requires { (job < JOBS_MAX) × (from < JOBS_MAX) }
         ensures { FirstUpTo (T.Table.rows self.now.table.now) job from (word_end from) result }
     {
         let whole = self.words[job * JOB_WORDS + from / WORD_JOBS];
@@ -113,7 +114,7 @@ impl<'a, T: Table> TwoWayTable for Indexed<'a, T> {
 fn mark_waits<T: Table>(table: &T, words: &mut [u64; INDEX_WORDS]) -> usize
     ensures marked { MarksWaits (T.Table.rows table.now) words.new }
     ensures value { result ≡ waits_of (T.Table.rows table.now) }
-    ensures bound { result ≤ waits_max }
+    ensures bound { result ≤ WAITS_MAX }
 {
     words.fill(0);
     let mut waits = 0;
@@ -125,7 +126,7 @@ fn mark_waits<T: Table>(table: &T, words: &mut [u64; INDEX_WORDS]) -> usize
 
 // Marks for whom one job waits, and tells for how many.
 fn mark_row<T: Table>(table: &T, job: usize, words: &mut [u64; INDEX_WORDS]) -> usize
-    requires job { job < jobs_max }
+    requires job { job < JOBS_MAX }
     requires few { length (at (T.Table.rows table.now) job).targets < 2 ^ 16 }
     ensures count { result ≡ length (at (T.Table.rows table.now) job).targets }
     ensures marked { RowMarked (at (T.Table.rows table.now) job).targets job words.old words.new }
@@ -140,7 +141,7 @@ fn mark_row<T: Table>(table: &T, job: usize, words: &mut [u64; INDEX_WORDS]) -> 
 
 // Marks that a job waits for another.
 fn mark(words: &mut [u64; INDEX_WORDS], target: usize, waiter: usize)
-    requires { (target < jobs_max) × (waiter < jobs_max) }
+    requires { (target < JOBS_MAX) × (waiter < JOBS_MAX) }
     ensures { MarkedToo target waiter words.old words.new }
 {
     words[target * JOB_WORDS + waiter / WORD_JOBS] |= 1 << (waiter % WORD_JOBS);

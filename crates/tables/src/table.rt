@@ -1,7 +1,8 @@
 // What a table tells, and what a two-way table tells besides.
 ghost use Rattle.std.specs.Prelude.{◌≡◌, ℕ, ◌≤◌, true, List, length};
 ghost use Rattle.rows.specs.Waiting.{Waiting, at, among, target_at};
-ghost use Rattle.tables.specs.Tables.{jobs_max, waits_max, lawful, waits, waiters, first_from};
+ghost use Rattle.tables.specs.Tables.{lawful, waits, waiters, first_from};
+ghost use Rattle.tables.specs.declared.table.TheConstants.{WAITS_MAX, JOBS_MAX};
 ghost use Rattle.tables.specs.Walks.{targets_left, waiters_left};
 
 use crate::walks::{Targets, Waiters};
@@ -20,7 +21,7 @@ pub trait Table {
     /// How many jobs there are, from 0 to 256. Their rows obey the row law.
     fn jobs(&self) -> usize
         ensures value { result ≡ length (rows self.now) }
-        ensures bound { result ≤ jobs_max }
+        ensures bound { result ≤ JOBS_MAX }
         ensures lawful { lawful (rows self.now) ≡ true };
 
     /// How many of its targets a job still needs, from 0, where it is active, to 16; beyond the last job 0.
@@ -48,7 +49,7 @@ pub trait Table {
     /// How many waits there are, from 0 to 4,096: each target of each row is one.
     fn wait_count(&self) -> usize
         ensures value { result ≡ waits (rows self.now) }
-        ensures bound { result ≤ waits_max }
+        ensures bound { result ≤ WAITS_MAX }
     {
         // no chain with `sum`: it would ask that the sum of any first jobs fits, of which a loop's invariant speaks anyway
         let mut waits = 0;

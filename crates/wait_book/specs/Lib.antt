@@ -7,10 +7,11 @@ pub use Rattle.rows.specs.Law as RowLaw
 pub use Rattle.rows.specs.Changes
 pub use Rattle.rows.specs.StoredRows
 pub use Rattle.tables.specs.Tables
+pub use Rattle.tables.specs.declared.table.TheConstants as TableConstants
 pub use Rattle.tables.specs.Grants
 pub use Rattle.tables.specs.Walks
 -- Groups, calls and histories.
-pub use Rattle.groups.specs.Limits as GroupLimits
+pub use Rattle.groups.specs.declared.store.TheConstants as GroupConstants
 pub use Rattle.groups.specs.State
 pub use Rattle.groups.specs.History
 pub use Rattle.groups.specs.Representation
@@ -28,7 +29,8 @@ pub use Rattle.store.specs.Replies
 pub use Rattle.book.specs.Tickets
 pub use Rattle.scripts.specs.Commands
 pub use Rattle.scripts.specs.Workspace
-pub use Rattle.scripts.specs.Limits as ScriptLimits
+pub use Rattle.scripts.specs.declared.run.TheConstants as ScriptConstants
+pub use Rattle.scripts.specs.declared.answer.TheConstants as AnswerConstants
 pub use Rattle.scripts.specs.ScriptCalls
 pub use Rattle.scripts.specs.ScriptFaults
 pub use Rattle.scripts.specs.ScriptRuns

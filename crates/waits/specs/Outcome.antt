@@ -12,22 +12,22 @@ use Rattle.wait_book.specs.Workspace.{workspace}
 use Rattle.wait_book.specs.Machines.{history_machine}
 use Rattle.wait_book.specs.StoppedScript.{StoppedScript}
 use Rattle.wait_book.specs.FinishedScript.{FinishedScript}
-use Rattle.wait_book.specs.Tables.{jobs_max, waits_max}
-use Rattle.wait_book.specs.GroupLimits.{trail_max}
+use Rattle.wait_book.specs.TableConstants.{WAITS_MAX, JOBS_MAX}
+use Rattle.wait_book.specs.GroupConstants.{TRAIL_MAX}
 use Rattle.wait_book.specs.ExchangeLimits.{capacity_per_wait}
 use Rattle.wait_book.specs.Creation.{new_parameters}
 
 -- How many jobs the program's book has.
 abbrev pub program_jobs : ℕ
-program_jobs = jobs_max
+program_jobs = JOBS_MAX
 
 -- How many undo records its trail has.
 abbrev pub program_trail : ℕ
-program_trail = trail_max
+program_trail = TRAIL_MAX
 
 -- How many messages its carrier has room for.
 abbrev pub program_queue : ℕ
-program_queue = capacity_per_wait * waits_max
+program_queue = capacity_per_wait * WAITS_MAX
 
 -- A new book. Any mark would do, since a script hands out no ticket.
 abbrev pub program_parameters : Parameters Fixed

@@ -2,7 +2,7 @@
 ghost use Rattle.std.specs.Prelude.{◌≡◌, IfOk, length};
 ghost use Rattle.std.specs.Simd.{first_chunks};
 ghost use Rattle.chart.specs.Faults.{check_answer};
-ghost use Rattle.chart.specs.Layout.{row_bytes};
+ghost use Rattle.chart.specs.declared.bytes.TheConstants.{ROW_BYTES};
 ghost use Rattle.chart.specs.Check.{checked, chart_rows};
 ghost use Rattle.chart.specs.Views.{rows_of, rows_counted};
 
@@ -13,7 +13,7 @@ use crate::fault::ChartFault;
 // The rows that lie in the bytes, or the first reason why the bytes are no chart.
 fn checked_rows(bytes: &[u8]) -> Result<&[RowBytes], ChartFault>
     ensures counted { rows_counted result ≡ checked bytes.now }
-    ensures rows { IfOk result (λ rows. rows.now ≡ first_chunks row_bytes (length rows.now) bytes.now) }
+    ensures rows { IfOk result (λ rows. rows.now ≡ first_chunks ROW_BYTES (length rows.now) bytes.now) }
 {
     let length = bytes.len();
     if length == 0 || length % ROW_BYTES != 0 || length > CHART_MAX {

@@ -1,7 +1,7 @@
 // Writing, opening, keeping and cancelling.
 ghost use Rattle.std.specs.Prelude.{◌≡◌, ◌+◌, ◌≤◌, not, length, take, drop, is_ok, if◌then◌else◌, Some, None, Ok, Err, slice_index_or};
 ghost use Rattle.containers.specs.Held.{holding};
-ghost use Rattle.groups.specs.Limits.{row_count, depth_max};
+ghost use Rattle.groups.specs.declared.store.TheConstants.{DEPTH_MAX, ROWS};
 ghost use Rattle.groups.specs.State.{summary, full, can_open, written, opened, kept, cancelled, rolled_back, undo_record, state_with_undo_record};
 ghost use Rattle.groups.specs.Beginning.{fresh};
 ghost use Rattle.groups.specs.TicketIds.{fits, ended_as};
@@ -13,7 +13,7 @@ use containers::{Container, Stack};
 impl<'a, P: Copy> Groups<'a, P> {
     /// Every row is `row`, and no group is open. The undo records will lie in the lent memory: as many as it has places for, at most 1,024.
     pub fn new(row: P, mark: u16, memory: &'a mut [UndoRecord<P>]) -> Groups<'a, P>
-        ensures { result ≡ fresh row_count row mark (length memory.old) }
+        ensures { result ≡ fresh ROWS row mark (length memory.old) }
     {
         Groups {
             rows: [row; ROWS],
@@ -42,7 +42,7 @@ impl<'a, P: Copy> Groups<'a, P> {
     /// How many groups are open, from 0 to 8.
     pub fn depth(&self) -> usize
         ensures value { result ≡ length self.now.groups }
-        ensures bound { result ≤ depth_max }
+        ensures bound { result ≤ DEPTH_MAX }
     {
         self.starts.len()
     }

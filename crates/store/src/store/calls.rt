@@ -9,7 +9,7 @@ ghost use Rattle.histories.specs.Calls.{edits, opens, ends, done};
 ghost use Rattle.store.specs.Plain.{requests, grants, plain, refusal};
 ghost use Rattle.histories.specs.CallSteps.{Represents, CallStep};
 ghost use Rattle.store.specs.Creation.{created, new_book};
-ghost use Rattle.tables.specs.Tables.{jobs_max};
+ghost use Rattle.tables.specs.declared.table.TheConstants.{JOBS_MAX};
 ghost use Rattle.store.specs.Replies.{edit_reply, open_reply_by_id, end_reply_by_id, edit_of};
 ghost use Rattle.histories.specs.Rules.{book_state, says, after};
 
@@ -23,7 +23,7 @@ use tables::{JOBS_MAX, Table};
 // How many jobs a book is created with: none where more are asked for than there can be.
 fn created(jobs: usize) -> usize
     ensures value { result ≡ created jobs }
-    ensures bound { result ≤ jobs_max }
+    ensures bound { result ≤ JOBS_MAX }
 {
     if jobs <= JOBS_MAX { jobs } else { 0 }
 }

@@ -3,7 +3,7 @@ ghost use Rattle.std.specs.Prelude.{◌≡◌, ◌≤◌, true, length, IfSome};
 ghost use Rattle.rows.specs.Waiting.{at};
 ghost use Rattle.rows.specs.Storage.{sound};
 ghost use Rattle.rows.specs.StoredRows.{waiting_of, waiting_or_idle};
-ghost use Rattle.groups.specs.Limits.{depth_max};
+ghost use Rattle.groups.specs.declared.store.TheConstants.{DEPTH_MAX};
 ghost use Rattle.store.specs.Snapshots.{snapshot_view};
 ghost use Rattle.histories.specs.Machines.{book_machine, view_of};
 ghost use Rattle.store.specs.Plain.{plain};
@@ -47,7 +47,7 @@ impl<'a> Store<'a> {
     /// How many groups are open, from 0 to 8.
     pub fn depth(&self) -> usize
         ensures value { result ≡ length self.now.state.groups }
-        ensures bound { result ≤ depth_max }
+        ensures bound { result ≤ DEPTH_MAX }
     {
         self.groups.depth()
     }
