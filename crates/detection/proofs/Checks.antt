@@ -33,5 +33,4 @@ finished_with_records_behind rows initiator was left before after d jobs job all
   of_record = f.of_record ∙ ap verdict_of (sym (get_or_append_left left (drop jobs was) blank initiator (omega arith)));
   stuck = f.stuck;
   free = f.free;
-  bounded = f.bounded;
 }

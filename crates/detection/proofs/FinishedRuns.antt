@@ -51,5 +51,4 @@ module _ {rows : List Waiting} {initiator : ℕ} (tabled : IsTable rows) (job : 
         of_record = of_record;
         stuck = stuck_verdict_tells (get_or records initiator blank).free d.verdict of_record freed;
         free = free_verdict_tells (get_or records initiator blank).free d.verdict of_record freed;
-        bounded = runs_are_bounded rows tabled.lawful initiator job;
       }

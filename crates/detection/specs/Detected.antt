@@ -7,7 +7,6 @@ use Rattle.tables.specs.Tables.{waits}
 use Rattle.tables.specs.Grants.{CanBeFreed}
 use Rattle.exchange.specs.Records.{blank}
 use Rattle.exchange.specs.Runs.{Exchange}
-use Rattle.exchange.specs.Bounds.{RunsBounded}
 use Rattle.exchange.specs.Limits.{deliveries_per_wait, capacity_per_wait}
 use Rattle.exchange.specs.declared.record.RunRecord.{RunRecord}
 use Rattle.detection.specs.Faults.{refusal_number}
@@ -49,8 +48,6 @@ pub record IsFinishedRun (rows : List Waiting) (initiator : ℕ) (was is : List 
   pub of_record : d.verdict ≡ verdict_of (slice_index_or is initiator blank)
   pub stuck : (d.verdict ≡ Stuck) ↔ (CanBeFreed rows initiator → ⊥)
   pub free : (d.verdict ≡ Free) ↔ CanBeFreed rows initiator
-  -- whatever order the messages had come in, no put would have been refused and no count would have fallen below 0
-  pub bounded : RunsBounded rows initiator
 
 -- It is refused exactly by the first check that fails, with its number, and then changes neither records nor carrier; else a whole run is made.
 pub record Detects (rows : List Waiting) (initiator : ℕ) (was is : List RunRecord) (before after : Carried) (r : Result Detection DetectionFault) : Type 0 where

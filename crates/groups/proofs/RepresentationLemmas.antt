@@ -1,8 +1,9 @@
 -- Whatever history a state shows, after each call it shows that history fed the call.
-use Rattle.std.proofs.Common.{◌≡◌, ℕ, ◌+◌, List, [], ◌∷◌, ◌++◌, length, get_or, set, sym, refl, ap, ◌∙◌, subst, arith, length-append}
+use Rattle.std.proofs.Common.{◌≡◌, ℕ, ◌+◌, List, [], ◌∷◌, ◌++◌, length, get_or, set, sym, refl, ap, ◌∙◌, subst, arith, length-append, sum_by}
+use Rattle.std.proofs.lemmas.List.Sums.{sum_by-cons}
 use Rattle.std.proofs.lemmas.List.{length_push, set-set, set-get_or}
 use Rattle.groups.specs.declared.store.UndoRecord.{UndoRecord}
-use Rattle.groups.specs.State.{State, Summary, summary, total, undo_record, with_undo_record, merged, rolled_back, restored, outside, written, opened, kept, cancelled}
+use Rattle.groups.specs.State.{State, Summary, summary, undo_record, with_undo_record, merged, rolled_back, restored, outside, written, opened, kept, cancelled}
 use Rattle.groups.specs.History.{History, history, join, nest, merge, forget, rows_after_calls, rows_of_history, history_summary}
 use Rattle.groups.specs.Representation.{RepresentsLists, RepresentsParts, RepresentsFrom}
 use Rattle.groups.proofs.RollBackLemmas.{rolled_back-++}
@@ -30,11 +31,11 @@ module _ {P C : Type 0} (job : C → ℕ) (next : List P → C → P) where
   undoes_depth first o (g ∷ gs) rows [] w = absurd w
   undoes_depth first o (g ∷ gs) rows (u ∷ us) w = ap Prim.Native.Nat.suc (undoes_depth first o gs (rolled_back rows u) us w.2)
 
-  undoes_used : (first : List P) (o : List C) (gs : List (List C)) (rows : List P) (us : List (List (UndoRecord P))) → RepresentsLists job next first o gs rows us → total us ≡ total gs
+  undoes_used : (first : List P) (o : List C) (gs : List (List C)) (rows : List P) (us : List (List (UndoRecord P))) → RepresentsLists job next first o gs rows us → sum_by length us ≡ sum_by length gs
   undoes_used first o [] rows [] w = refl
   undoes_used first o [] rows (u ∷ us) w = absurd w
   undoes_used first o (g ∷ gs) rows [] w = absurd w
-  undoes_used first o (g ∷ gs) rows (u ∷ us) w = omega (arith, w.1, undoes_used first o gs (rolled_back rows u) us w.2)
+  undoes_used first o (g ∷ gs) rows (u ∷ us) w = omega (arith, sum_by-cons length u us, sum_by-cons length g gs, w.1, undoes_used first o gs (rolled_back rows u) us w.2)
 
   same_summary : {rows rows' : List P} {d d' u u' : ℕ} → rows ≡ rows' → d ≡ d' → u ≡ u' → ◌≡◌ {A = Summary P} (record { rows = rows; depth = d; recorded = u }) (record { rows = rows'; depth = d'; recorded = u' })
   same_summary a b c = cc

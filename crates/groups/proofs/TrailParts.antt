@@ -1,9 +1,10 @@
 -- The trail cut at the groups' starts, before and after each call.
-use Rattle.std.proofs.Common.{◌≡◌, ℕ, suc, ◌<◌, ◌≤◌, true, Option, Some, None, IsSome, List, [], ◌∷◌, ◌++◌, length, reverse, take, drop, sym, refl, ap, ◌∙◌, arith}
+use Rattle.std.proofs.Common.{◌≡◌, ℕ, suc, ◌<◌, ◌≤◌, true, Option, Some, None, IsSome, List, [], ◌∷◌, ◌++◌, length, reverse, take, drop, sym, refl, ap, ◌∙◌, arith, sum_by}
+use Rattle.std.proofs.lemmas.List.Sums.{sum_by-cons}
 use Rattle.std.proofs.lemmas.List.{drop-append-le, take-append-le, take-append-drop, take-take, length-take-le, length-drop, length_push, length-append, length-reverse, reverse-append}
 use Rattle.std.specs.Option.{option_to_list}
 use Rattle.std.proofs.lemmas.Bool.Decides.{nat_tests}
-use Rattle.groups.specs.State.{total, with_undo_record, merged}
+use Rattle.groups.specs.State.{with_undo_record, merged}
 use Rattle.groups.specs.Memory.{parts, tidy}
 
 tidy_within : (n s : ℕ) (ss : List ℕ) → tidy n (s ∷ ss) ≡ true → s ≤ n
@@ -28,12 +29,12 @@ module _ {X : Type 0} where
       rw l (tidy_outside (length xs) s ss t)
 
   -- every record of a tidy trail belongs to a group
-  total_parts : (xs : List X) (ss : List ℕ) → tidy (length xs) ss ≡ true → total (parts xs ss) ≡ length xs
+  total_parts : (xs : List X) (ss : List ℕ) → tidy (length xs) ss ≡ true → sum_by length (parts xs ss) ≡ length xs
   total_parts xs [] t = grind (arith, nat_tests)
   total_parts xs (s ∷ ss) t =
       let w = tidy_within (length xs) s ss t in
       let inner = total_parts (take s xs) ss (tidy_front xs s ss t) in
-      omega (arith, length-take-le s xs w, length-drop s xs)
+      omega (arith, sum_by-cons length (drop s xs) (parts (take s xs) ss), inner, length-take-le s xs w, length-drop s xs)
 
   -- a record more goes to the innermost group
   parts_recorded : (xs : List X) (ss : List ℕ) (x : X) → 0 < length ss → tidy (length xs) ss ≡ true → (tidy (length (xs ++ x ∷ [])) ss ≡ true) × (parts (xs ++ x ∷ []) ss ≡ with_undo_record (parts xs ss) x)
@@ -60,7 +61,7 @@ module _ {X : Type 0} where
   pub depth_of : (xs : List X) (starts : List ℕ) → length (parts xs (reverse starts)) ≡ length starts
   depth_of xs starts = length_parts xs (reverse starts) ∙ length-reverse starts
 
-  pub used_of : (xs : List X) (starts : List ℕ) → tidy (length xs) (reverse starts) ≡ true → total (parts xs (reverse starts)) ≡ length xs
+  pub used_of : (xs : List X) (starts : List ℕ) → tidy (length xs) (reverse starts) ≡ true → sum_by length (parts xs (reverse starts)) ≡ length xs
   used_of xs starts t = total_parts xs (reverse starts) t
 
   pub recorded_parts : (xs : List X) (starts : List ℕ) (x : X) → 0 < length starts → tidy (length xs) (reverse starts) ≡ true → (tidy (length (xs ++ x ∷ [])) (reverse starts) ≡ true) × (parts (xs ++ x ∷ []) (reverse starts) ≡ with_undo_record (parts xs (reverse starts)) x)

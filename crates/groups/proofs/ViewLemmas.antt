@@ -1,11 +1,12 @@
 -- Each call does the same to a state and to what is seen of it.
-use Rattle.std.proofs.Common.{◌≡◌, ℕ, zero, suc, ◌+◌, ◌<◌, ◌≤◌, List, [], ◌∷◌, map, length, take, set, replicate, sym, refl, ap, ◌∙◌, inl, inr, arith}
+use Rattle.std.proofs.Common.{◌≡◌, ℕ, zero, suc, ◌+◌, ◌<◌, ◌≤◌, List, [], ◌∷◌, map, length, take, set, replicate, sym, refl, ap, ◌∙◌, inl, inr, arith, sum_by}
+use Rattle.std.proofs.lemmas.List.Sums.{sum_by-cons}
 use lib.ListN.{get_or-map}
 use lib.Seq.{take-set-lt}
 use Rattle.std.proofs.lemmas.List.{map-set, map-append, length-map, length-set, length-take-le, get_or-take, take-set-le, set_past, take-replicate}
 use Rattle.std.proofs.lemmas.Bool.{cases_lt}
 use Rattle.groups.specs.declared.store.UndoRecord.{UndoRecord}
-use Rattle.groups.specs.State.{State, summary, total, undo_record, with_undo_record, merged, rolled_back, restored, outside, written, kept, cancelled}
+use Rattle.groups.specs.State.{State, summary, undo_record, with_undo_record, merged, rolled_back, restored, outside, written, kept, cancelled}
 use Rattle.groups.specs.Beginning.{fresh}
 use Rattle.groups.specs.StateViews.{undo_record_view, view}
 use Rattle.groups.proofs.RollBackLemmas.{same_state}
@@ -23,9 +24,9 @@ module _ {P Q : Type 0} (f : P → Q) where
   map_replicate zero x = refl
   map_replicate (suc n) x = ap (λ ys. f x ∷ ys) (map_replicate n x)
 
-  total_map : (gs : List (List P)) → total (map (map f) gs) ≡ total gs
+  total_map : (gs : List (List P)) → sum_by length (map (map f) gs) ≡ sum_by length gs
   total_map [] = refl
-  total_map (g ∷ gs) = ap (λ k. k + total (map (map f) gs)) (length-map g f) ∙ ap (λ k. length g + k) (total_map gs)
+  total_map (g ∷ gs) = omega (arith, sum_by-cons length (map f g) (map (map f) gs), sum_by-cons length g gs, length-map g f, total_map gs)
 
   recorded_map : (gs : List (List P)) (x : P) → map (map f) (with_undo_record gs x) ≡ with_undo_record (map (map f) gs) (f x)
   recorded_map [] x = refl

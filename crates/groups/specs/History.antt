@@ -1,6 +1,6 @@
 -- The calls that still count: lists of them, and the rows that they draw.
-use Rattle.std.specs.Prelude.{ℕ, List, [], ◌∷◌, ◌++◌, length, slice_set}
-use Rattle.groups.specs.State.{Summary, total}
+use Rattle.std.specs.Prelude.{ℕ, List, [], ◌∷◌, ◌++◌, length, slice_set, sum_by}
+use Rattle.groups.specs.State.{Summary}
 
 -- The calls outside of groups, and those of each open group, the innermost group first.
 pub data History (C : Type 0) : Type 0 where
@@ -44,4 +44,4 @@ module _ {P C : Type 0} (job : C → ℕ) (next : List P → C → P) where
 
   -- What a history's answers go by.
   abbrev pub history_summary : List P → History C → Summary P
-  history_summary first (history o gs) = record { rows = rows_of_history first o gs; depth = length gs; recorded = total gs }
+  history_summary first (history o gs) = record { rows = rows_of_history first o gs; depth = length gs; recorded = sum_by length gs }

@@ -1,5 +1,5 @@
 -- Rows with open groups, and what each call makes of them.
-use Rattle.std.specs.Prelude.{ℕ, ◌+◌, Bool, ◌&&◌, List, [], ◌∷◌, ◌++◌, length, ◌==◌, nat_le, nat_lt, slice_index_or, slice_set}
+use Rattle.std.specs.Prelude.{ℕ, ◌+◌, Bool, ◌&&◌, List, [], ◌∷◌, ◌++◌, length, ◌==◌, nat_le, nat_lt, slice_index_or, slice_set, sum_by}
 use Rattle.groups.specs.declared.store.UndoRecord.{UndoRecord}
 use Rattle.groups.specs.declared.store.TheConstants.{DEPTH_MAX}
 
@@ -11,11 +11,6 @@ pub record State (P : Type 0) : Type 0 where
   pub mark : ℕ
   pub trail_room : ℕ
 
--- How many things some lists hold together.
-abbrev pub total : {X : Type 0} → List (List X) → ℕ
-total [] = 0
-total (xs ∷ xss) = length xs + total xss
-
 -- What answers go by: the rows, how many groups are open, and how many records or calls these hold.
 pub record Summary (P : Type 0) : Type 0 where
   pub rows : List P
@@ -24,7 +19,7 @@ pub record Summary (P : Type 0) : Type 0 where
 
 -- What the answers of a state go by.
 abbrev pub summary : {P : Type 0} → State P → Summary P
-summary s = record { rows = s.rows; depth = length s.groups; recorded = total s.groups }
+summary s = record { rows = s.rows; depth = length s.groups; recorded = sum_by length s.groups }
 
 -- The trail is full for the next write: a group is open, and the groups hold as many records as there is room.
 abbrev pub full : {P : Type 0} → ℕ → Summary P → Bool

@@ -1,6 +1,6 @@
 // What ends a script.
 ghost use Rattle.std.specs.Prelude.{◌≡◌};
-ghost use Rattle.scripts.specs.ScriptFaults.{script_number, script_value, script_layer, refusal_of};
+ghost use Rattle.scripts.specs.ScriptFaults.{refusal_of};
 ghost use Rattle.scripts.specs.declared.fault.ScriptFault.{ScriptFault};
 ghost use Rattle.scripts.specs.declared.fault.ScriptFault.TheVariants.{OfBook, OfDetection};
 
@@ -53,7 +53,7 @@ impl Error for ScriptFault {}
 impl ScriptFault {
     /// The fault's number, which the rules fix: from 13 to 17; or that of the book's or the detection's refusal.
     pub fn number(&self) -> u8
-        ensures { result ≡ script_number self.now }
+        ensures { result ≡ (refusal_of self.now).number }
     {
         match self {
             ScriptFault::TooLong => 13,
@@ -68,7 +68,7 @@ impl ScriptFault {
 
     /// The value that it carries: the place of the first wrong target, from 0.
     pub fn value(&self) -> Option<usize>
-        ensures { result ≡ script_value self.now }
+        ensures { result ≡ (refusal_of self.now).value }
     {
         match self {
             ScriptFault::OfBook(fault) => fault.value(),
@@ -78,7 +78,7 @@ impl ScriptFault {
 
     /// Whose fault it is: 0 the script's, 1 the book's, 2 the detection's. No other fault has this layer, number and value.
     pub fn layer(&self) -> u8
-        ensures value { result ≡ script_layer self.now }
+        ensures value { result ≡ (refusal_of self.now).layer }
         ensures own { (other : ScriptFault) → refusal_of other ≡ refusal_of self.now → other ≡ self.now }
     {
         match self {

@@ -49,7 +49,6 @@ can_be_made rows initiator was before law job long narrow = record {
     of_record = refl;
     stuck = both.0;
     free = both.1;
-    bounded = runs_are_bounded rows law initiator job;
   };
 }
   where
