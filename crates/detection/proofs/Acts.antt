@@ -12,10 +12,9 @@ use Rattle.rows.specs.Waiting.{Waiting, at, is_active}
 use Rattle.rows.specs.declared.plain.TheConstants.{TARGETS_MAX}
 use Rattle.tables.specs.Tables.{waiters, IsTable}
 use Rattle.carriers.specs.Messages.{receiver_on}
-use Rattle.exchange.specs.Messages.{message, notify_messages, grant_messages}
-use Rattle.exchange.specs.Records.{with_granted, with_freed_by}
+use Rattle.exchange.specs.Rules.{message, notify_messages, grant_messages, Act, and_then, let_go, notify_all, spread, freed_on, react}
+use Rattle.exchange.proofs.RecordChanges.{with_granted, with_freed_by}
 use Rattle.exchange.specs.Bounds.{IsDue}
-use Rattle.exchange.specs.Rules.{Act, and_then, let_go, notify_all, spread, freed_on, react}
 use Rattle.exchange.specs.declared.record.RunRecord.{RunRecord}
 use Rattle.detection.specs.Preconditions.{RoomFor}
 use Rattle.tables.proofs.Sizes.{targets_are_few}

@@ -12,3 +12,4 @@ pub mod ExactDeliveries
 pub mod Termination
 pub mod Rounds
 pub mod RoundsLemmas
+pub mod RecordChanges

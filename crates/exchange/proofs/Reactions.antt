@@ -13,9 +13,9 @@ use Rattle.tables.specs.Tables.{waiters}
 use Rattle.tables.proofs.Laws.{who_waits_is_a_job}
 use Rattle.tables.proofs.WaiterLemmas.{among_rising_is_not_below, waiters_are_who_waits, waiters_rise}
 use Rattle.carriers.specs.Messages.{receiver_on}
-use Rattle.exchange.specs.Messages.{on, message, notify_messages, grant_messages, put_on}
-use Rattle.exchange.specs.Records.{blank, with_granted, with_notified_by, freed}
-use Rattle.exchange.specs.Rules.{Act, and_then, let_go, notify_all, spread, react, freed_on}
+use Rattle.exchange.specs.Rules.{on, message, notify_messages, grant_messages, put_on, Act, and_then, let_go, notify_all, spread, react, freed_on}
+use Rattle.exchange.specs.Records.{blank}
+use Rattle.exchange.proofs.RecordChanges.{with_granted, with_notified_by, freed}
 use Rattle.exchange.specs.Bounds.{IsDue}
 use Rattle.exchange.specs.declared.record.RunRecord.{RunRecord}
 use Rattle.exchange.proofs.Entries

@@ -6,7 +6,7 @@ use Rattle.std.specs.List.Sorted.{IsPermutation}
 use Rattle.carriers.specs.declared.message.Kind.{Kind}
 use Rattle.carriers.specs.declared.message.Message.{Message}
 use Rattle.carriers.specs.declared.message.Wait.{Wait}
-use Rattle.exchange.specs.Messages.{put_on}
+use Rattle.exchange.specs.Rules.{put_on}
 
 abbrev pub weigh : (Kind → Wait → ℕ) → List Message → ℕ
 weigh f [] = 0

@@ -1,6 +1,5 @@
 -- The exchange, from its parts to what holds of every run.
 pub mod Records
-pub mod Messages
 pub mod Rules
 pub mod Runs
 pub mod Limits

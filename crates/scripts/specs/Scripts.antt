@@ -51,7 +51,7 @@ unreadable (whole c n) = None
 module _ {X : Type 0} (S : Machine Waiting Edit X) where
   -- How far a script is after a call, with so many groups of its own open.
   abbrev pub after_call : Progress X → Call Edit → (groups : ℕ) → Progress X
-  after_call p c groups = record { current = S.after p.current c; workspace = p.workspace; written = p.written; groups = groups }
+  after_call p c groups = record p { current = S.after p.current c; groups = groups }
 
   -- The ending of the innermost group, as its ticket would.
   abbrev pub ends_innermost : X → Ending → Call Edit
@@ -59,11 +59,9 @@ module _ {X : Type 0} (S : Machine Waiting Edit X) where
 
   -- How far it is after an accepted detection.
   abbrev pub after_detection : Progress X → (job : ℕ) → Detection → (is : List RunRecord) (after : Carried) → Progress X
-  after_detection p job d is after = record {
-    current = p.current;
+  after_detection p job d is after = record p {
     workspace = record { records = is; carrier = after; bytes = with_answer p.workspace.bytes p.written (answer_bytes job d) };
     written = p.written + DETECTION_BYTES;
-    groups = p.groups;
   }
 
   -- A command is carried out.

@@ -1,7 +1,7 @@
 -- The put is accepted.
 use Rattle.std.proofs.Common.{arith}
 use Rattle.carriers.proofs.Sends.{sent_one}
-use Rattle.exchange.specs.Messages.{message}
+use Rattle.exchange.specs.Rules.{message}
 use Rattle.detection.proofs.puts.send.Goals as goal
 
 pub returns : goal.returns

@@ -3,7 +3,7 @@ use Rattle.std.proofs.Common.{ℕ}
 use Rattle.carriers.specs.declared.message.Kind.TheVariants.{Grant}
 use Rattle.tables.specs.Tables.{waiters}
 use Rattle.tables.specs.Walks.{waiters_left}
-use Rattle.exchange.specs.Messages.{message, on}
+use Rattle.exchange.specs.Rules.{message, on}
 use Rattle.detection.proofs.SendLemmas.{SentFront}
 use Rattle.detection.proofs.puts.send_grants.Given as goal
 

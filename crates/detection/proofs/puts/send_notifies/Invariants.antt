@@ -3,7 +3,7 @@ use Rattle.std.proofs.Common.{ℕ}
 use Rattle.carriers.specs.declared.message.Kind.TheVariants.{Notify}
 use Rattle.rows.specs.Waiting.{at}
 use Rattle.tables.specs.Walks.{targets_left}
-use Rattle.exchange.specs.Messages.{message, on}
+use Rattle.exchange.specs.Rules.{message, on}
 use Rattle.detection.proofs.SendLemmas.{SentFront}
 use Rattle.detection.proofs.puts.send_notifies.Given as goal
 

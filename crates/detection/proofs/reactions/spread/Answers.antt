@@ -3,8 +3,7 @@ use Rattle.std.proofs.Common.{◌≡◌, sym, ap, ◌∙◌, subst, arith}
 use Rattle.carriers.specs.Meaning.{Sent}
 use Rattle.carriers.proofs.Sends.{sent_more, length-sent}
 use Rattle.rows.specs.Waiting.{at}
-use Rattle.exchange.specs.Messages.{notify_messages, grant_messages}
-use Rattle.exchange.specs.Rules.{Act}
+use Rattle.exchange.specs.Rules.{notify_messages, grant_messages, Act}
 use Rattle.detection.proofs.Acts.{active_job_lets_go, active_job_puts_both}
 use Rattle.detection.proofs.reactions.spread.Given as given
 use Rattle.detection.proofs.reactions.spread.Goals as goal
