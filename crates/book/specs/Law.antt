@@ -20,7 +20,7 @@ pub record ScriptRun : Type 0 where
   pub answer : Result FinishedScript StoppedScript
   pub after : Workspace
 
--- It happens to a machine by the rules of scripts.
+-- It happens to a book or a history, by the rules of scripts.
 abbrev pub ScriptHappens : {X : Type 0} → Machine Waiting Edit X → X → ScriptRun → X → Type 0
 ScriptHappens S x r y = RunsScript S x r.before r.script r.answer y r.after
 

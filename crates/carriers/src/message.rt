@@ -9,7 +9,7 @@ pub enum Kind {
     /// The target learns of the run.
     Notify,
 
-    /// The waiter learns that the target, and all that the target has notified, know of the run.
+    /// The answer to a NOTIFY: at once where the target knew of the run, else when it closes its notice.
     Done,
 
     /// The waiter learns that the target is free.

@@ -1,10 +1,9 @@
 -- How rows lie in bytes.
-use Rattle.std.specs.Prelude.{ℕ, ◌*◌, ◌/◌, List, length, drop, slice_index}
+use Rattle.std.specs.Prelude.{ℕ, ◌/◌, List, length, drop, slice_index}
 use Rattle.chart.specs.declared.bytes.TheConstants.{ROW_BYTES}
 use Rattle.std.specs.Simd.{first_chunks}
 use Rattle.rows.specs.Waiting.{Waiting}
 use Rattle.rows.specs.Storage.{stored}
-use Rattle.tables.specs.declared.table.TheConstants.{JOBS_MAX}
 
 -- The need of a job is its first byte.
 abbrev pub need_byte : List ℕ → ℕ

@@ -10,7 +10,6 @@ use Rattle.tables.specs.Tables.{IsTable}
 use Rattle.exchange.specs.Records.{blank}
 use Rattle.exchange.specs.Runs.{Exchange}
 use Rattle.exchange.specs.declared.record.RunRecord.{RunRecord}
-use Rattle.exchange.proofs.BoundLemmas.{runs_are_bounded}
 use Rattle.exchange.proofs.EndedRuns.{ended_runs_tell}
 use Rattle.detection.specs.Detected.{verdict_of, IsFinishedRun}
 use Rattle.detection.specs.declared.verdict.Detection.{Detection}

@@ -22,10 +22,10 @@ pub struct RunRecord {
     /// How many ACKs it is owed.
     pub acks_due: u16,
 
-    /// The wait on which the first NOTIFY came; none for the initiator.
+    /// The wait on which the first NOTIFY came; none before it comes, and for the initiator.
     pub notified_by: Option<Wait>,
 
-    /// The wait on which the freeing GRANT came; none for a job that needs no GRANT.
+    /// The wait on which the freeing GRANT came; none before it comes, and for an active job.
     pub freed_by: Option<Wait>,
 }
 

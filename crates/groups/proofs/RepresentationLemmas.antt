@@ -1,4 +1,4 @@
--- Whatever history a state shows, after each call it shows that history fed the call.
+-- Whatever history a state represents, after each call it represents that history fed the call.
 use Rattle.std.proofs.Common.{◌≡◌, ℕ, ◌+◌, List, [], ◌∷◌, ◌++◌, length, get_or, set, sym, refl, ap, ◌∙◌, subst, arith, length-append, sum_by}
 use Rattle.std.proofs.lemmas.List.Sums.{sum_by-cons}
 use Rattle.std.proofs.lemmas.List.{length_push, set-set, set-get_or}

@@ -1,4 +1,4 @@
--- When rows with open groups show a history.
+-- When rows with open groups represent a history.
 use Rattle.std.specs.Prelude.{◌≡◌, ℕ, List, [], ◌∷◌, length}
 use Rattle.groups.specs.declared.store.UndoRecord.{UndoRecord}
 use Rattle.groups.specs.State.{State, rolled_back}
@@ -18,6 +18,6 @@ module _ {P C : Type 0} (job : C → ℕ) (next : List P → C → P) where
   abbrev pub RepresentsParts : List P → List P → List (List (UndoRecord P)) → History C → Type 0
   RepresentsParts first rows us (history o gs) = RepresentsLists first o gs rows us
 
-  -- A state shows a history that began with the first rows: same rows, same depth, and what would be undone.
+  -- A state represents a history that began with the first rows: same rows, same depth, and what would be undone.
   abbrev pub RepresentsFrom : List P → State P → History C → Type 0
   RepresentsFrom first s h = RepresentsParts first s.rows s.groups h

@@ -1,10 +1,10 @@
 -- Rows with open groups, and what each call makes of them.
-use Rattle.std.specs.Prelude.{ℕ, ◌+◌, Bool, ◌&&◌, List, [], ◌∷◌, ◌++◌, length, ◌==◌, nat_le, nat_lt, slice_index_or, slice_set, sum_by}
+use Rattle.std.specs.Prelude.{ℕ, Bool, ◌&&◌, List, [], ◌∷◌, ◌++◌, length, ◌==◌, nat_le, nat_lt, slice_index_or, slice_set, sum_by}
 use Rattle.groups.specs.declared.store.UndoRecord.{UndoRecord}
 use Rattle.groups.specs.declared.store.TheConstants.{DEPTH_MAX}
 
 -- The rows; the undo records that each open group would put back, the innermost group first and in each the oldest first;
--- the mark of the ticket ids; and how many undo records the trail has room for.
+-- the mark of its tickets; and how many undo records the trail has room for.
 pub record State (P : Type 0) : Type 0 where
   pub rows : List P
   pub groups : List (List (UndoRecord P))
@@ -64,12 +64,12 @@ merged (g ∷ (h ∷ gs)) = (h ++ g) ∷ gs
 abbrev pub kept : {P : Type 0} → State P → State P
 kept s = record s { groups = merged s.groups }
 
--- The rows with old ones put back, the newest of them first.
+-- The rows with undo records put back, the newest of them first.
 abbrev pub rolled_back : {P : Type 0} → List P → List (UndoRecord P) → List P
 rolled_back rows [] = rows
 rolled_back rows (o ∷ os) = slice_set (rolled_back rows os) o.job o.row
 
--- The rows with the innermost group's old ones put back.
+-- The rows with the innermost group's undo records put back.
 abbrev pub restored : {P : Type 0} → List P → List (List (UndoRecord P)) → List P
 restored rows [] = rows
 restored rows (g ∷ gs) = rolled_back rows g

@@ -1,4 +1,4 @@
--- What an ending makes of a ticket id.
+-- Whether a ticket id fits, and what an ending makes of the groups.
 use Rattle.std.specs.Prelude.{Bool}
 use Rattle.groups.specs.declared.store.TicketId.{TicketId}
 use Rattle.groups.specs.declared.store.Ending.{Ending}

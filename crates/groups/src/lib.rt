@@ -1,6 +1,6 @@
 //! Rows of any copyable type, with nested undo: a group of writes is kept, or cancelled as a whole.
 //!
-//! [`Groups`] holds the rows. Who opens a group is given a [`Ticket id`], and ends the group with it.
+//! [`Groups`] holds the rows. Whoever opens a group gets a [`TicketId`], and ends the group by it.
 #![tactic(auto)]
 
 mod store;

@@ -1,4 +1,4 @@
--- A book beside a history that it shows: they answer alike, and go on alike.
+-- A book beside a history that it represents: they answer alike, and go on alike.
 use Rattle.std.proofs.Common.{◌≡◌, Bool, true, false, cond, length, replicate, refl, ap, ◌∙◌, subst}
 use Rattle.std.proofs.lemmas.List.{length-replicate}
 use Rattle.groups.specs.declared.store.Ending.{Ending}
@@ -27,7 +27,7 @@ module _ {P E K : Type 0} (R : Rules P E K) where
       go true = parameters_changed s c
       go false = refl
 
-  -- A book of these parameters that shows a history.
+  -- A book of these parameters that represents a history.
   pub record Stands (t : Parameters K) (s : BookState P K) (h : History E) : Type 0 where
     pub same_parameters : parameters s ≡ t
     pub represents : Represents R s h

@@ -13,7 +13,7 @@ use Rattle.histories.specs.Rules.{BookState, book_state, Rules, says, changed}
 use Rattle.histories.proofs.TicketIdAnswers.{ticket_id_answer, ending_answer_of}
 use Rattle.histories.proofs.SimulationLemmas.{call_step}
 
--- a face decides the same where it counts the same
+-- a summary decides the same where it counts the same
 full_same : {P Q : Type 0} (trail_room : ℕ) (f : Summary P) (f' : Summary Q) → f.depth ≡ f'.depth → f.recorded ≡ f'.recorded → full trail_room f ≡ full trail_room f'
 full_same trail_room f f' d u = rw (d, u)
 

@@ -1,4 +1,4 @@
--- A call that answers and changes the book by the rules follows every history that the book shows.
+-- A call that answers and changes the book by the rules simulates every history that the book represents.
 use Rattle.std.proofs.Common.{◌≡◌, ◌-◌, Bool, true, false, cond, List, [], ◌∷◌, length, replicate, sym, refl, ap, ◌∙◌, subst, arith}
 use Rattle.std.proofs.lemmas.List.{length-set, length-replicate}
 use Rattle.groups.specs.State.{State, undo_record, with_undo_record, merged, outside}
@@ -84,6 +84,6 @@ module _ {P E K : Type 0} (R : Rules P E K) where
     depth = ap (λ (t : BookState P K). length t.state.groups) f ∙ depth_so s c (accepted (says R s c)) ∙ ap (λ q. depth_after c q (length s.state.groups)) (sym (ap accepted e));
   }
 
-  -- a new book shows the history in which nothing has happened
+  -- a new book represents the history in which nothing has happened
   pub fresh_represents : (t : Parameters K) → Represents R (fresh_book R t) begun
   fresh_represents t = ap (λ k. replicate k R.idle) (sym (length-replicate t.jobs R.idle))

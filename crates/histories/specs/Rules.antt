@@ -1,5 +1,5 @@
 -- What a kind of book is, and what its calls answer and do.
-use Rattle.std.specs.Prelude.{◌≡◌, ℕ, ◌+◌, cond, List, [], length, replicate}
+use Rattle.std.specs.Prelude.{ℕ, ◌+◌, cond, List, [], length, replicate}
 use Rattle.rows.specs.Waiting.{Waiting}
 use Rattle.groups.specs.State.{State, Summary, summary, can_open, innermost, written, opened, kept, cancelled}
 use Rattle.histories.specs.Calls.{Answer, done, ticket, accepted, too_deep, not_innermost, Call, edits, opens, keeps, cancels}

@@ -17,7 +17,7 @@ pub data Event (E M : Type 0) : Type 0 where
   special : M → Event E M
 
 module _ {P E K M X : Type 0} (R : Rules P E K) (S : Machine P E X) (Happens : X → M → X → Type 0) where
-  -- An event happens to a machine by the rules: of calls, of detections on its rows, which change nothing, or of what this kind knows.
+  -- An event happens to a book or a history, by the rules: of calls, of detections on its rows, which change nothing, or of what this kind knows.
   pub data Does : X → Event E M → X → Type 0 where
     calls : {x : X} {c : Call E} → Does x (made c (S.says x c)) (S.after x c)
     detects : {x : X} {job : ℕ} {was is : List RunRecord} {before after : Carried} {r : Result Detection DetectionFault}

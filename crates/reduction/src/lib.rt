@@ -1,6 +1,6 @@
 //! The central reduction: which jobs of a table are stuck.
 //!
-//! [`reduce`] writes a byte for each job, [`LOOSE`] or [`HELD`].
+//! [`reduce`] writes a byte for each job, [`LOOSE`] or [`STUCK`].
 #![tactic(auto)]
 
 mod fault;

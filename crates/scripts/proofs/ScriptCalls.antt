@@ -1,4 +1,4 @@
--- A script's calls: on a machine that counts its groups by its calls, as a book and a history do, a script is the calls that it counts as.
+-- A script's calls: on what counts its groups by its calls, as a book and a history do, a script is the calls that it counts as.
 use Rattle.std.proofs.Common.{◌≡◌, ℕ, zero, suc, ◌+◌, ◌-◌, ◌≤◌, Bool, true, false, List, [], ◌∷◌, ◌++◌, length, take, drop, flat_map, Option, Some, None, Result, MatchBool, sym, refl, ap, ◌∙◌, subst, append_assoc, append-nil, arith, nat_lt, IfOk}
 use Rattle.std.proofs.lemmas.List.{length-append}
 use Rattle.std.proofs.Math.Seq.{take-append_seam}
@@ -35,7 +35,7 @@ groups_after-add (ending e ∷ cs) own others w =
 groups_after-add (detecting job ∷ cs) own others w = groups_after-add cs own others w
 
 module _ {X : Type 0} (S : Machine Waiting Edit X) where
-  -- Calls that are made on a machine, all of them accepted, and leave it as another.
+  -- Calls that are made, all of them accepted, and what they leave.
   pub record Made (x : X) (calls : List (Call Edit)) (y : X) : Type 0 where
     pub accepted : AllAccepted S x calls
     pub leaves : y ≡ after_calls S x calls

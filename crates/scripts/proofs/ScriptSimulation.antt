@@ -1,4 +1,4 @@
--- A script on a book is the same script on whatever history the book shows.
+-- A script on a book is the same script on whatever history the book represents.
 use Rattle.std.proofs.Common.{◌≡◌, ℕ, zero, suc, ◌≤◌, Bool, true, false, List, length, Option, Some, None, Result, Ok, MatchBool, sym, refl, ap, ◌∙◌, subst, nat_lt}
 use Rattle.std.proofs.lemmas.Bool.{le-ltb}
 use Rattle.groups.specs.History.{History}

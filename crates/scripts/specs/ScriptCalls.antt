@@ -64,11 +64,11 @@ abbrev pub script_calls : (mark depth : ℕ) → List Command → List (Call Edi
 script_calls mark depth commands = command_calls mark depth commands ++ cancelling_calls mark (groups_after depth commands) (groups_after 0 commands)
 
 module _ {P E X : Type 0} (S : Machine P E X) where
-  -- A machine after calls that are made in order.
+  -- What answers calls, after some that are made in order.
   abbrev pub after_calls : X → List (Call E) → X
   after_calls x calls = fold S.after x calls
 
-  -- Each call is accepted, as those before it have left the machine.
+  -- Each call is accepted, as those before it have left what answers.
   abbrev pub AllAccepted : X → List (Call E) → Type 0
   AllAccepted x [] = ⊤
   AllAccepted x (c ∷ calls) = (accepted (S.says x c) ≡ true) × AllAccepted (S.after x c) calls

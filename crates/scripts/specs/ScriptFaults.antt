@@ -23,7 +23,7 @@ by_book number value = record { layer = 1; number = number; value = value }
 abbrev pub by_detection : (number : ℕ) → LayeredRefusal
 by_detection number = record { layer = 2; number = number; value = None }
 
--- That of each fault. What the book and the detection refuse is passed on as they number it.
+-- The refusal that each fault tells. What the book and the detection refuse is passed on as they number it.
 abbrev pub refusal_of : ScriptFault → LayeredRefusal
 refusal_of TooLong = by_script 13
 refusal_of UnknownLetter = by_script 14

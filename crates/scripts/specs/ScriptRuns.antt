@@ -10,8 +10,8 @@ use Rattle.histories.specs.Machines.{book_machine, history_machine}
 use Rattle.scripts.specs.declared.fault.StoppedScript.{StoppedScript}
 use Rattle.scripts.specs.declared.fault.FinishedScript.{FinishedScript}
 
--- The book does as the rules of scripts say; and whatever history it shows before, that history does the same by the same rules, and is
--- the one that the book shows after.
+-- The book does as the rules of scripts say; and whatever history it represents before, that history does the same by the same rules,
+-- and is the one that the book represents after.
 pub record ScriptStep (s : PlainBook) (l : Workspace) (script : List ℕ) (answer : Result FinishedScript StoppedScript) (s' : PlainBook) (l' : Workspace) : Type 0 where
   pub does : RunsScript (book_machine plain) s l script answer s' l'
   pub represents : (h : History Edit) → Represents plain s h → (h' : History Edit) × RunsScript (history_machine plain (parameters s)) h l script answer h' l' × Represents plain s' h'

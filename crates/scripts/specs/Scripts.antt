@@ -21,7 +21,7 @@ use Rattle.scripts.specs.declared.fault.StoppedScript.{StoppedScript}
 use Rattle.scripts.specs.declared.fault.FinishedScript.{FinishedScript}
 use Rattle.scripts.specs.declared.tally.Position.{Position}
 
--- How far a script has come: the machine, what is lent, how many bytes it has written and how many groups it has open.
+-- How far a script has come: the book or the history, what is lent, how many bytes it has written and how many groups it has open.
 pub record Progress (X : Type 0) : Type 0 where
   pub current : X
   pub workspace : Workspace
@@ -136,6 +136,6 @@ module _ {X : Type 0} (S : Machine Waiting Edit X) where
     pub leaves : x' ≡ x
     pub hands_back : workspace' ≡ workspace
 
-  -- More than 8,192 bytes are refused; any other script is worked.
+  -- More than 8,192 bytes are refused; the commands of any other are carried out.
   abbrev pub RunsScript : X → Workspace → List ℕ → Result FinishedScript StoppedScript → X → Workspace → Type 0
   RunsScript x workspace script answer x' workspace' = MatchBool (nat_lt SCRIPT_MAX (length script)) (Refused x workspace answer x' workspace') (RunsCommands x workspace script answer x' workspace')

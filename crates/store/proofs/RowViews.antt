@@ -1,5 +1,5 @@
 -- The rows that the book shows, read off the rows that it stores.
-use Rattle.std.proofs.Common.{◌≡◌, ℕ, ◌+◌, ◌≤◌, true, false, List, [], ◌∷◌, length, map, sym, ap, ◌∙◌, Some, None, Option, IfSome, Bor, Result, Ok, Err, IsOk, refl, take, subst, ⊎_elim, arith}
+use Rattle.std.proofs.Common.{◌≡◌, ℕ, ◌+◌, ◌≤◌, true, false, List, [], ◌∷◌, length, map, ap, ◌∙◌, Some, None, Option, IfSome, Bor, Result, Ok, Err, IsOk, refl, take, subst, ⊎_elim, arith}
 use Rattle.std.specs.Slice.{IsGetResult}
 use Rattle.std.proofs.lemmas.Bool.{cases_Bool, and_parts, and_from}
 use Rattle.rows.specs.declared.plain.LawBroken.{LawBroken}

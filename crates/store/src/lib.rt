@@ -1,6 +1,6 @@
 //! The plain store: which job waits for which, with groups of edits that are kept or cancelled.
 //!
-//! Groups of a [`Store`] end by ticket ids, which anyone can make: who owns a store decides who may.
+//! Groups of a [`Store`] end by ticket ids, which anyone can make: so the owner of a store decides who may end its groups.
 #![tactic(auto)]
 
 mod calls;

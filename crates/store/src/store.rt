@@ -6,8 +6,8 @@ use groups::Groups;
 use rows::PlainRow;
 use std::marker::Model;
 
-/// A plain store: the rows of the first `jobs` jobs, under groups, which have 256 rows whatever the number of jobs: memory is fixed. A clause sees
-/// a book: what its creation has fixed, the rows of its jobs, what each open group would undo, its mark, and the trail's size.
+/// A plain store: the rows of the first `jobs` jobs, under groups. Memory is fixed: groups have 256 rows, whatever the number of jobs. A clause
+/// sees a book: what its creation has fixed, the rows of its jobs, what each open group would undo, its mark, and the trail's size.
 #[derive(Drop)]
 pub struct Store<'a> {
     jobs: usize,

@@ -1,10 +1,9 @@
 -- What a table tells of its rows.
-use Rattle.std.specs.Prelude.{◌≡◌, ℕ, ◌+◌, ◌*◌, ◌≤◌, Bool, true, cond, List, [], ◌∷◌, length, sum_by, Option, nat_le}
+use Rattle.std.specs.Prelude.{◌≡◌, ℕ, ◌+◌, ◌≤◌, Bool, true, cond, List, [], ◌∷◌, length, sum_by, Option, nat_le}
 use Rattle.tables.specs.declared.table.TheConstants.{JOBS_MAX}
 use Rattle.std.specs.List.{find}
 use Rattle.rows.specs.Waiting.{Waiting, among}
 use Rattle.rows.specs.Law.{row_fits}
-use Rattle.rows.specs.declared.plain.TheConstants.{TARGETS_MAX}
 use Rattle.rows.specs.Obeys.{rows_obey}
 
 -- The rows of a table obey the row law.

@@ -4,6 +4,7 @@
 -- Rows and tables of waits.
 pub use Rattle.rows.specs.Waiting
 pub use Rattle.rows.specs.Law as RowLaw
+pub use Rattle.rows.specs.LawFacts
 pub use Rattle.rows.specs.Changes
 pub use Rattle.rows.specs.StoredRows
 pub use Rattle.tables.specs.Tables
@@ -41,14 +42,17 @@ pub use Rattle.carriers.specs.Carriers
 pub use Rattle.carriers.specs.Meaning
 pub use Rattle.carriers.specs.Messages
 pub use Rattle.carriers.specs.CountedCarriers
+pub use Rattle.carriers.specs.Picks
 pub use Rattle.exchange.specs.Limits as ExchangeLimits
 pub use Rattle.exchange.specs.Bounds
 pub use Rattle.exchange.specs.Records
 pub use Rattle.exchange.specs.Rules as ExchangeRules
 pub use Rattle.exchange.specs.Runs
+pub use Rattle.exchange.specs.Verdicts
 pub use Rattle.detection.specs.Detected
 pub use Rattle.detection.specs.Faults as DetectionFaults
 -- Charts and the reduction.
+pub use Rattle.chart.specs.declared.bytes.TheConstants as ChartConstants
 pub use Rattle.chart.specs.Check
 pub use Rattle.chart.specs.Faults as ChartFaults
 pub use Rattle.chart.specs.Layout

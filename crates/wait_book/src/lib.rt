@@ -8,6 +8,8 @@
 //! - [`detect`] tells of one job whether it is stuck, by messages over a carrier: a [`QueueCarrier`], a [`StackCarrier`] or a [`Picker`].
 //! - [`Chart`] is a book read from bytes, [`write_chart`] writes one, and [`reduce`] tells of all jobs which are stuck.
 //! - [`live`] lives a whole life of a book by one call.
+//! - [`books_simulate_histories`], [`lives_follow`], [`runs_are_bounded`], [`ended_runs_tell`], [`loosened_jobs_can_be_freed`] and
+//!   [`row_law_is_tested`] have nothing to run: their contracts are theorems.
 #![tactic(auto)]
 
 pub use book::{
@@ -21,4 +23,9 @@ pub use carriers::{
 };
 pub use chart::{CHART_MAX, Chart, ChartFault, ROW_BYTES, write_chart};
 pub use detection::{CAPACITY_PER_WAIT, Detection, DetectionFault, RunRecord, Verdict, detect};
+pub use exchange::{ended_runs_tell, runs_are_bounded};
+pub use histories::books_simulate_histories;
+pub use lives::lives_follow;
 pub use reduction::{LOOSE, ReductionFault, STUCK, reduce};
+pub use rows::row_law_is_tested;
+pub use tables::loosened_jobs_can_be_freed;
