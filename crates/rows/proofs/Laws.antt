@@ -6,8 +6,8 @@ use Rattle.rows.specs.declared.plain.PlainRow.{PlainRow}
 use Rattle.rows.specs.Waiting.{Waiting, idle, among}
 use Rattle.rows.specs.Law.{counts_fit, rising, targets_fit, row_fits}
 use Rattle.rows.specs.Storage.{shaped, places_fit, sound}
-use Rattle.rows.specs.Changes.{wrong_counts, first_wrong, without, granted}
-use Rattle.rows.specs.StoredRows.{waiting, plain_fits, placed, requested}
+use Rattle.rows.specs.Changes.{wrong_counts, first_wrong, without, granted, placed, requested}
+use Rattle.rows.specs.StoredRows.{waiting, plain_fits}
 use Rattle.rows.proofs.Counts.{Counts, fit_tells, right_counts_fit, one_less_fits}
 use Rattle.rows.proofs.Fits.{without_is_one_shorter, fitting_rises, none_wrong_fits, fits_where_none_is_wrong, without_still_fits, among_fitting_is_below}
 

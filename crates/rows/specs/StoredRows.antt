@@ -62,17 +62,6 @@ abbrev pub seen : Result Row RowFault → Result Waiting RowFault
 seen (Ok r) = Ok (waiting_of r)
 seen (Err e) = Err e
 
--- A wrong target at a place, or the row.
-abbrev pub placed : Option ℕ → Waiting → Result Waiting RowFault
-placed None w = Ok w
-placed (Some place) w = Err (WrongTarget place)
-
--- The row of a request by `job`, one of n jobs; or the first reason against it.
-abbrev pub requested : (n job need : ℕ) → List ℕ → Result Waiting RowFault
-requested n job need targets =
-    cond (wrong_counts need (length targets)) (Err WrongCounts)
-    (placed (first_wrong n job 0 0 targets) (record { need = need; targets = targets }))
-
 -- What an optional row says.
 abbrev pub seen_some : Option Row → Option Waiting
 seen_some None = None

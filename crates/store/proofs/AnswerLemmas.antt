@@ -10,8 +10,8 @@ use Rattle.rows.specs.declared.plain.RowFault.TheVariants.{WrongCounts as RowCou
 use Rattle.rows.specs.Law.{row_fits}
 use Rattle.rows.proofs.Laws.{sound_fits, grant_fits}
 use Rattle.rows.specs.Waiting.{Waiting, at, among}
-use Rattle.rows.specs.Changes.{wrong_counts, first_wrong, granted}
-use Rattle.rows.specs.StoredRows.{StoredWhole, waiting, waiting_of, seen_some, placed, requested, granted_by}
+use Rattle.rows.specs.Changes.{wrong_counts, first_wrong, granted, placed, requested}
+use Rattle.rows.specs.StoredRows.{StoredWhole, waiting, waiting_of, seen_some, granted_by}
 use Rattle.groups.specs.declared.store.TicketId.{TicketId}
 use Rattle.groups.specs.StateViews.{view}
 use Rattle.groups.proofs.ViewLemmas.{view_written}
@@ -19,7 +19,7 @@ use Rattle.groups.specs.State.{State, summary, full, written, opened}
 use Rattle.store.specs.declared.fault.BookFault.{BookFault}
 use Rattle.store.specs.declared.fault.BookFault.TheVariants.{NoSuchJob, Blocked, WrongCounts, TrailFull, GranterBlocked, NoSuchWait, TooDeep}
 use Rattle.store.specs.Faults.{of_row}
-use Rattle.store.specs.Plain.{Edit, requests, grants, plain, PlainBook, book_of, refusal, refused_at}
+use Rattle.store.specs.Plain.{Edit, requests, grants, plain, PlainBook, book_of, refusal, unless_no_row}
 use Rattle.histories.specs.Calls.{edits, opens, Answer, done}
 use Rattle.histories.specs.Rules.{says, book_state}
 use Rattle.store.specs.Replies.{edit_reply, open_reply_by_id}
@@ -84,16 +84,6 @@ grant_some u w v e = go (among u w.targets) e
     go true h = (refl, cc)
     go false h = absurd (cc h)
 
--- the answer where a row is not made, or else the rest of the checks
-abbrev stop_of : Result Waiting RowFault → Answer → Answer
-stop_of (Ok w) rest = rest
-stop_of (Err e) rest = refusal (of_row e)
-
-made_replies : (q : Bool) (p : Option ℕ) (w : Waiting) (rest : Answer) → cond q (refusal WrongCounts) (refused_at p rest) ≡ stop_of (cond q (Err RowCounts) (placed p w)) rest
-made_replies true p w rest = refl
-made_replies false None w rest = refl
-made_replies false (Some place) w rest = refl
-
 placed_is : (q : Bool) (p : Option ℕ) (w v : Waiting) → cond {A = Result Waiting RowFault} q (Err RowCounts) (placed p w) ≡ Ok v → w ≡ v
 placed_is true p w v e = absurd (cc e)
 placed_is false None w v e = cc
@@ -115,22 +105,22 @@ module _ (s : PlainBook) (n : ℕ) (jobs : n ≡ length s.state.rows) where
         let r : ltb 0 (at s.state.rows job).need ≡ true = lt-ltb _ _ b in
         refused (requests job need targets) Blocked (rw (q, r))
 
-    request_says : job < n → (at s.state.rows job).need ≤ 0 → says plain s (edits (requests job need targets)) ≡ stop_of (requested n job need targets) (cond (full s.state.trail_room (summary s.state)) (refusal TrailFull) done)
+    request_says : job < n → (at s.state.rows job).need ≤ 0 → says plain s (edits (requests job need targets)) ≡ unless_no_row (requested n job need targets) (cond (full s.state.trail_room (summary s.state)) (refusal TrailFull) done)
     request_says l b =
         let q : leb (length s.state.rows) job ≡ false = lt-leb _ _ (omega (arith, jobs)) in
         let r : ltb 0 (at s.state.rows job).need ≡ false = le-ltb _ _ b in
-        rw (q, r, ← jobs) (made_replies (wrong_counts need (length targets)) (first_wrong n job 0 0 targets) (record { need = need; targets = targets }) _)
+        rw (q, r, ← jobs) refl
 
     pub no_row : job < n → (at s.state.rows job).need ≤ 0 → (e : RowFault) (r : Result (Unit {0}) BookFault) → Err e ≡ requested n job need targets → IsErrAnd r (λ y. y ≡ of_row e) → CallStep plain s (edits (requests job need targets)) (edit_reply r) s
     no_row l b e r f h =
         stopped_call_step plain s (requests job need targets) (edit_reply r) (refusal (of_row e)) refl (carried_fault r (of_row e) h)
-        (sym (request_says l b ∙ ap (λ k. stop_of k (cond (full s.state.trail_room (summary s.state)) (refusal TrailFull) done)) (sym f)))
+        (sym (request_says l b ∙ ap (λ k. unless_no_row k (cond (full s.state.trail_room (summary s.state)) (refusal TrailFull) done)) (sym f)))
 
     pub request_call_step : job < n → (at s.state.rows job).need ≤ 0 → (w : Waiting) (a : Answer) (t : PlainBook) → Ok w ≡ requested n job need targets → a ≡ cond (full s.state.trail_room (summary s.state)) (refusal TrailFull) done → t ≡ cond (full s.state.trail_room (summary s.state)) s (book_state s.fixed (written s.state job w)) → CallStep plain s (edits (requests job need targets)) a t
     request_call_step l b w a t f g h =
         edit_call_step plain s t (requests job need targets) w a
         (sym (placed_is (wrong_counts need (length targets)) (first_wrong n job 0 0 targets) (record { need = need; targets = targets }) w (sym f)))
-        (request_says l b ∙ ap (λ k. stop_of k (cond (full s.state.trail_room (summary s.state)) (refusal TrailFull) done)) (sym f))
+        (request_says l b ∙ ap (λ k. unless_no_row k (cond (full s.state.trail_room (summary s.state)) (refusal TrailFull) done)) (sym f))
         g h
 
   module _ (granter waiter : ℕ) where

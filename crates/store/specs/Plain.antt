@@ -1,12 +1,13 @@
 -- The plain book: its edits, what an accepted one writes, what each answers, and the record of its rules.
-use Rattle.std.specs.Prelude.{ℕ, cond, not, ◌||◌, List, length, Some, None, Option, nat_le, nat_lt}
+use Rattle.std.specs.Prelude.{ℕ, cond, not, ◌||◌, List, None, Ok, Err, Result, nat_le, nat_lt}
 use Rattle.rows.specs.Waiting.{Waiting, idle, at, among}
-use Rattle.rows.specs.Changes.{wrong_counts, first_wrong, granted}
+use Rattle.rows.specs.declared.plain.RowFault.{RowFault}
+use Rattle.rows.specs.Changes.{requested, granted}
 use Rattle.groups.specs.State.{State, Summary, full}
 use Rattle.histories.specs.Calls.{Answer, done, stopped, trail_full}
 use Rattle.histories.specs.Rules.{BookState, book_state, Parameters, Rules}
 use Rattle.store.specs.declared.fault.BookFault.{BookFault}
-use Rattle.store.specs.Faults.{number, value}
+use Rattle.store.specs.Faults.{number, value, of_row}
 
 -- What creation fixes of a plain book besides its size, its mark and its trail, for instance limits: nothing.
 abbrev pub Fixed : Type 0
@@ -39,10 +40,10 @@ next_row rows (grants granter waiter) = granted granter (at rows waiter)
 abbrev pub refusal : BookFault → Answer
 refusal fault = stopped (number fault) (value fault)
 
--- The first wrong target stops a request, with 4 and its place.
-abbrev pub refused_at : Option ℕ → Answer → Answer
-refused_at None answer = answer
-refused_at (Some place) answer = stopped 4 (Some place)
+-- A request that makes no row is refused for that: 3, wrong counts; 4, a wrong target, with its place.
+abbrev pub unless_no_row : Result Waiting RowFault → Answer → Answer
+unless_no_row (Ok row) answer = answer
+unless_no_row (Err fault) answer = refusal (of_row fault)
 
 -- The checks of a request: 1, no such job; 2, the job is blocked; 3, wrong counts; 4, a wrong target; 5, the trail is full. And those of a
 -- grant: 1, no such job; 6, the granter is blocked; 7, no such wait; 5.
@@ -50,10 +51,9 @@ abbrev pub edit_answer : Parameters Fixed → Summary Waiting → Edit → Answe
 edit_answer t f (requests job need targets) =
     cond (nat_le t.jobs job) (stopped 1 None)
     (cond (nat_lt 0 (at f.rows job).need) (stopped 2 None)
-    (cond (wrong_counts need (length targets)) (stopped 3 None)
-    (refused_at (first_wrong t.jobs job 0 0 targets)
+    (unless_no_row (requested t.jobs job need targets)
     (cond (full t.trail_room f) trail_full
-    done))))
+    done)))
 edit_answer t f (grants granter waiter) =
     cond (nat_le t.jobs granter || nat_le t.jobs waiter) (stopped 1 None)
     (cond (nat_lt 0 (at f.rows granter).need) (stopped 6 None)

@@ -1,7 +1,8 @@
 // The rows that a request and a grant make.
 ghost use Rattle.std.specs.Prelude.{◌≡◌, ◌-◌, ◌<◌, length};
 ghost use Rattle.std.specs.List.{remove};
-ghost use Rattle.rows.specs.StoredRows.{waiting_of, seen, seen_some, requested, granted_by};
+ghost use Rattle.rows.specs.StoredRows.{waiting_of, seen, seen_some, granted_by};
+ghost use Rattle.rows.specs.Changes.{requested};
 
 use crate::parts::{counts_fit, first_wrong, padded, place_of, without_place};
 use crate::plain::{PlainRow, Row, RowFault};
