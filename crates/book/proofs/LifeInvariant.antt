@@ -7,9 +7,8 @@ use Rattle.carriers.specs.Carriers.{Carried}
 use Rattle.exchange.specs.declared.record.RunRecord.{RunRecord}
 use Rattle.lives.specs.Events.{begins, lives}
 use Rattle.store.specs.Creation.{new_book, new_parameters}
-use Rattle.book.specs.Law.{BookEvent, LifeOfBook}
+use Rattle.book.specs.Moments.{BookEvent, LifeOfBook, answer_at, seen_at, written_by, AreEvents, nothing, then, IsLife}
 use Rattle.scripts.specs.Workspace.{Workspace, workspace}
-use Rattle.book.specs.Moments.{answer_at, seen_at, written_by, AreEvents, nothing, then, IsLife}
 use Rattle.book.specs.LifeSteps.{IsStep}
 use Rattle.store.specs.Snapshots.{snapshot_view}
 use Rattle.histories.specs.Machines.{book_machine, view_of}

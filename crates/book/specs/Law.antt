@@ -3,8 +3,7 @@ use Rattle.std.specs.Prelude.{ℕ, List, Result}
 use Rattle.rows.specs.Waiting.{Waiting}
 use Rattle.groups.specs.History.{History}
 use Rattle.histories.specs.Rules.{Parameters}
-use Rattle.histories.specs.Machines.{Machine, View, book_machine, history_machine}
-use Rattle.lives.specs.Events.{Event, special, Does, Life}
+use Rattle.histories.specs.Machines.{Machine, book_machine, history_machine}
 use Rattle.lives.specs.Law.{LawOfLives}
 use Rattle.store.specs.Plain.{Edit, plain, PlainBook, Fixed}
 use Rattle.scripts.specs.Workspace.{Workspace}
@@ -32,26 +31,6 @@ RunsOnBook = ScriptHappens (book_machine plain)
 pub record RunsOnHistory (t : Parameters Fixed) (h : History Edit) (r : ScriptRun) (i : History Edit) : Type 0 where
   pub does : ScriptHappens (history_machine plain t) h r i
   pub counts : CountsAs (history_machine plain t) h r.script r.answer i
-
--- What happens to a plain book.
-abbrev pub BookEvent : Type 0
-BookEvent = Event Edit ScriptRun
-
--- A script that is run, as an event.
-abbrev pub script_event : List ℕ → (before : Workspace) → Result FinishedScript StoppedScript → (after : Workspace) → BookEvent
-script_event script before answer after = special (record { script = script; before = before; answer = answer; after = after })
-
--- An event happens to a plain book.
-abbrev pub DoesOnBook : PlainBook → BookEvent → PlainBook → Type 0
-DoesOnBook = Does plain (book_machine plain) RunsOnBook
-
--- The life of a plain book.
-abbrev pub LifeOfBook : (first : PlainBook) → List BookEvent → List (View Waiting) → PlainBook → Type 0
-LifeOfBook = Life plain (book_machine plain) RunsOnBook
-
--- The life of a history.
-abbrev pub LifeOfHistory : Parameters Fixed → (first : History Edit) → List BookEvent → List (View Waiting) → History Edit → Type 0
-LifeOfHistory t = Life plain (history_machine plain t) (RunsOnHistory t)
 
 -- Whatever happens to a plain book, scripts among it, happens to the history that is told the same at creation. Of a script the history is
 -- fed the calls that it counts as.

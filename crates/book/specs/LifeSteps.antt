@@ -1,7 +1,6 @@
 -- A call of a life that is made on a book.
 use Rattle.scripts.specs.Workspace.{Workspace}
-use Rattle.book.specs.Moments.{IsEvent}
-use Rattle.book.specs.Law.{BookEvent, DoesOnBook}
+use Rattle.book.specs.Moments.{IsEvent, DoesOnBook, BookEvent}
 use Rattle.book.specs.declared.life.call.Answer.{Answer}
 use Rattle.book.specs.declared.life.call.Call.{Call}
 use Rattle.store.specs.Plain.{PlainBook}

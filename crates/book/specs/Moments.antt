@@ -8,15 +8,16 @@ use Rattle.rows.specs.Waiting.{Waiting}
 use Rattle.groups.specs.History.{History, begun}
 use Rattle.detection.specs.declared.fault.DetectionFault.{DetectionFault}
 use Rattle.detection.specs.declared.verdict.Detection.{Detection}
-use Rattle.store.specs.Plain.{Edit, plain, PlainBook}
+use Rattle.store.specs.Plain.{Edit, plain, PlainBook, Fixed}
 use Rattle.histories.specs.Calls.{edits, opens, ends}
-use Rattle.lives.specs.Events.{made, detected}
-use Rattle.book.specs.Law.{BookEvent, script_event, LifeOfBook, LifeOfHistory}
+use Rattle.lives.specs.Events.{Event, made, detected, special, Does, Life}
+use Rattle.book.specs.Law.{ScriptRun, RunsOnBook, RunsOnHistory}
 use Rattle.store.specs.Creation.{new_book, new_parameters}
 use Rattle.scripts.specs.Workspace.{Workspace}
 use Rattle.scripts.specs.ScriptRuns.{script_written}
 use Rattle.store.specs.Snapshots.{snapshot_view}
-use Rattle.histories.specs.Machines.{history_machine, View, view_of}
+use Rattle.histories.specs.Rules.{Parameters}
+use Rattle.histories.specs.Machines.{book_machine, history_machine, View, view_of}
 use Rattle.store.specs.Replies.{edit_of, edit_reply, open_reply_by_id, end_reply_by_id}
 use Rattle.store.specs.declared.fault.BookFault.{BookFault}
 use Rattle.store.specs.declared.fault.RefusedTicketId.{RefusedTicketId}
@@ -28,6 +29,26 @@ use Rattle.book.specs.declared.life.moment.Moment.{Moment}
 use Rattle.store.specs.declared.snapshot.Snapshot.{Snapshot}
 use Rattle.scripts.specs.declared.fault.FinishedScript.{FinishedScript}
 use Rattle.scripts.specs.declared.fault.StoppedScript.{StoppedScript}
+
+-- What happens to a plain book.
+abbrev pub BookEvent : Type 0
+BookEvent = Event Edit ScriptRun
+
+-- An event happens to a plain book.
+abbrev pub DoesOnBook : PlainBook → BookEvent → PlainBook → Type 0
+DoesOnBook = Does plain (book_machine plain) RunsOnBook
+
+-- The life of a plain book.
+abbrev pub LifeOfBook : (first : PlainBook) → List BookEvent → List (View Waiting) → PlainBook → Type 0
+LifeOfBook = Life plain (book_machine plain) RunsOnBook
+
+-- The life of a history.
+abbrev pub LifeOfHistory : Parameters Fixed → (first : History Edit) → List BookEvent → List (View Waiting) → History Edit → Type 0
+LifeOfHistory t = Life plain (history_machine plain t) (RunsOnHistory t)
+
+-- A script that is run, as an event.
+abbrev pub script_event : List ℕ → (before : Workspace) → Result FinishedScript StoppedScript → (after : Workspace) → BookEvent
+script_event script before answer after = special (record { script = script; before = before; answer = answer; after = after })
 
 -- What was seen at a moment.
 abbrev pub seen_at : Moment → View Waiting

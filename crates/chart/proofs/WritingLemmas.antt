@@ -18,7 +18,8 @@ use Rattle.rows.specs.Law.{row_fits}
 use Rattle.rows.specs.declared.plain.TheConstants.{TARGETS_MAX}
 use Rattle.rows.specs.Obeys.{rows_obey}
 use Rattle.rows.specs.StoredRows.{places_of}
-use Rattle.rows.specs.Waiting.{Waiting, idle, at, target_at}
+use Rattle.rows.specs.Waiting.{Waiting, idle, at}
+use Rattle.rows.specs.Places.{target_at}
 use Rattle.tables.specs.Tables.{lawful, IsTable}
 use Rattle.chart.specs.Check.{row_right, first_wrong_row, wrong_length, rows_of_checked, checked}
 use Rattle.chart.specs.Layout.{row_of, job_count, bytes_of_jobs}

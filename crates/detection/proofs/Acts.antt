@@ -10,7 +10,8 @@ use Rattle.carriers.specs.Carriers.{Carried}
 use Rattle.carriers.proofs.Sends.{sent_more, length-sent}
 use Rattle.rows.specs.Waiting.{Waiting, at, is_active}
 use Rattle.rows.specs.declared.plain.TheConstants.{TARGETS_MAX}
-use Rattle.tables.specs.Tables.{waiters, IsTable}
+use Rattle.tables.specs.Tables.{IsTable}
+use Rattle.tables.specs.Waits.{waiters}
 use Rattle.carriers.specs.Messages.{receiver_on}
 use Rattle.exchange.specs.Rules.{message, notify_messages, grant_messages, Act, and_then, let_go, notify_all, spread, freed_on, react}
 use Rattle.exchange.proofs.RecordChanges.{with_granted, with_freed_by}

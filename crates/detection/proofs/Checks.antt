@@ -5,7 +5,7 @@ use Rattle.std.proofs.lemmas.Slice.{drop-append-drop}
 use Rattle.std.proofs.lemmas.Bool.Decides.{nat_tests}
 use Rattle.carriers.specs.Carriers.{Carried}
 use Rattle.rows.specs.Waiting.{Waiting}
-use Rattle.tables.specs.Tables.{waits}
+use Rattle.tables.specs.Waits.{waits}
 use Rattle.exchange.specs.Records.{blank}
 use Rattle.exchange.specs.Runs.{Exchange}
 use Rattle.exchange.specs.declared.record.RunRecord.{RunRecord}

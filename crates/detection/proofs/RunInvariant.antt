@@ -8,7 +8,8 @@ use Rattle.carriers.specs.Meaning.{Took, Sent}
 use Rattle.carriers.specs.Carriers.{Carried}
 use Rattle.carriers.specs.declared.message.Message.{Message}
 use Rattle.rows.specs.Waiting.{Waiting}
-use Rattle.tables.specs.Tables.{waits, IsTable}
+use Rattle.tables.specs.Tables.{IsTable}
+use Rattle.tables.specs.Waits.{waits}
 use Rattle.exchange.specs.Bounds.{IsExpected, IsBounded}
 use Rattle.carriers.specs.Messages.{receiver}
 use Rattle.exchange.specs.Records.{blank}

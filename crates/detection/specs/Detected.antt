@@ -1,19 +1,32 @@
 -- When a detection is stopped, and what any other leaves.
 use Rattle.std.specs.Prelude.{◌≡◌, ℕ, ◌+◌, ◌*◌, ◌%◌, ◌^◌, ◌<◌, ◌≤◌, cond, ◌↔◌, List, [], length, take, drop, Some, None, Option, Result, MatchResult, nat_le, nat_lt, slice_index_or}
+use Rattle.std.specs.Option.{option_map}
+use Rattle.std.specs.Result.{result_err}
 use Rattle.carriers.specs.Carriers.{Carried}
 use Rattle.carriers.specs.declared.message.Message.{Message}
 use Rattle.rows.specs.Waiting.{Waiting}
-use Rattle.tables.specs.Tables.{waits}
+use Rattle.tables.specs.Waits.{waits}
 use Rattle.tables.specs.Grants.{CanBeFreed}
 use Rattle.exchange.specs.Records.{blank}
 use Rattle.exchange.specs.Runs.{Exchange}
 use Rattle.exchange.specs.Limits.{deliveries_per_wait, capacity_per_wait}
 use Rattle.exchange.specs.declared.record.RunRecord.{RunRecord}
-use Rattle.detection.specs.Faults.{refusal_number}
 use Rattle.detection.specs.declared.fault.DetectionFault.{DetectionFault}
+use Rattle.detection.specs.declared.fault.DetectionFault.TheVariants.{NoSuchJob, TooFewRecords, MessagesWait, CarrierTooSmall}
 use Rattle.detection.specs.declared.verdict.Detection.{Detection}
 use Rattle.detection.specs.declared.verdict.Verdict.{Verdict}
 use Rattle.detection.specs.declared.verdict.Verdict.TheVariants.{Stuck, Free}
+
+-- 1, no such job; 10, too few records; 11, messages wait; 12, the carrier is too small. None carries a value.
+abbrev pub number : DetectionFault → ℕ
+number NoSuchJob = 1
+number TooFewRecords = 10
+number MessagesWait = 11
+number CarrierTooSmall = 12
+
+-- The number by which a detection is refused; none where it is not.
+abbrev pub refusal_number : {A : Type 0} → Result A DetectionFault → Option ℕ
+refusal_number r = option_map number (result_err r)
 
 -- The first check that stops a detection, by its number. 1: the initiator is no job. 10: there are fewer records than jobs. 11: messages
 -- wait in the carrier. 12: its capacity is below twice the number of waits.

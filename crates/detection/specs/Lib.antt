@@ -1,4 +1,3 @@
 -- What a detection is stopped by, what it leaves, and what its steps ask for.
-pub mod Faults
 pub mod Detected
 pub mod Preconditions

@@ -1,6 +1,6 @@
 // The detection: a run of the exchange from one job, over any table and any carrier.
 ghost use Rattle.std.specs.Prelude.{◌≡◌, ◌*◌, ◌<◌, ◌≤◌, length, IfErr};
-ghost use Rattle.tables.specs.Tables.{waits as waits_of};
+ghost use Rattle.tables.specs.Waits.{waits as waits_of};
 ghost use Rattle.exchange.specs.Limits.{capacity_per_wait};
 ghost use Rattle.detection.specs.Detected.{Detects, IsFinishedRun, verdict_of};
 

@@ -1,6 +1,6 @@
 // Why a detection is stopped.
 ghost use Rattle.std.specs.Prelude.{◌≡◌};
-ghost use Rattle.detection.specs.Faults.{number};
+ghost use Rattle.detection.specs.Detected.{number};
 ghost use Rattle.detection.specs.declared.fault.DetectionFault.{DetectionFault};
 
 use std::error::Error;

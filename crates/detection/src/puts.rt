@@ -2,7 +2,7 @@
 ghost use Rattle.std.specs.Prelude.{◌≡◌, [], ◌∷◌, length};
 ghost use Rattle.carriers.specs.Meaning.{Sent};
 ghost use Rattle.rows.specs.Waiting.{at};
-ghost use Rattle.tables.specs.Tables.{waiters};
+ghost use Rattle.tables.specs.Waits.{waiters};
 ghost use Rattle.exchange.specs.Rules.{message, notify_messages, grant_messages, put_on};
 ghost use Rattle.detection.specs.Preconditions.{RoomFor};
 

@@ -12,8 +12,8 @@ use Rattle.carriers.specs.declared.message.Kind.TheVariants.{Notify, Done, Grant
 use Rattle.carriers.specs.declared.message.Message.{Message}
 use Rattle.carriers.specs.declared.message.Wait.{Wait}
 use Rattle.rows.specs.Waiting.{Waiting, among}
-use Rattle.tables.specs.Grants.{count}
-use Rattle.tables.specs.Tables.{waits, waiters}
+use Rattle.tables.specs.ClosedSets.{count}
+use Rattle.tables.specs.Waits.{waits, waiters}
 use Rattle.tables.proofs.Grants.{row_after_a_write}
 use Rattle.tables.proofs.Laws.{who_waits_is_a_job}
 use Rattle.carriers.specs.Messages.{receiver_on, receiver}

@@ -2,7 +2,7 @@
 use Rattle.std.proofs.Common.{◌≡◌, ℕ, ◌<◌, ◌≤◌, Bool, true, false, cond, not, ◌||◌, ◌⊎◌, ◌↔◌, List, [], length, get_or, sym, refl, ap, ◌∙◌, inl, inr, arith}
 use Rattle.std.proofs.lemmas.Bool.{true≢false, cases_eq, cases_Bool}
 use Rattle.rows.specs.Waiting.{Waiting, among}
-use Rattle.tables.specs.Grants.{count, IsLoosened}
+use Rattle.tables.specs.ClosedSets.{count, IsLoosened}
 use Rattle.tables.proofs.Grants.{closed_from, loosened_can_be_freed}
 use Rattle.exchange.specs.Records.{blank}
 use Rattle.exchange.specs.Runs.{RunState}

@@ -5,8 +5,8 @@ use Rattle.carriers.specs.declared.message.Kind.TheVariants.{Notify, Done, Grant
 use Rattle.carriers.specs.declared.message.Message.{Message}
 use Rattle.carriers.specs.declared.message.Wait.{Wait}
 use Rattle.rows.specs.Waiting.{Waiting, among, is_active}
-use Rattle.tables.specs.Grants.{count}
-use Rattle.tables.specs.Tables.{waiters}
+use Rattle.tables.specs.ClosedSets.{count}
+use Rattle.tables.specs.Waits.{waiters}
 use Rattle.exchange.specs.declared.record.RunRecord.{RunRecord}
 use Rattle.exchange.proofs.LawfulRows.{need, targets}
 

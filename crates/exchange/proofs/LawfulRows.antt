@@ -9,8 +9,9 @@ use Rattle.rows.specs.Waiting.{Waiting, idle, at, among}
 use Rattle.rows.specs.Law.{counts_fit, rising, targets_fit, row_fits}
 use Rattle.rows.proofs.Counts.{Counts, fit_tells}
 use Rattle.rows.proofs.Laws.{idle_fits, fits_shaped}
-use Rattle.tables.specs.Grants.{count}
-use Rattle.tables.specs.Tables.{lawful, waits, waiters, waiters_from}
+use Rattle.tables.specs.ClosedSets.{count}
+use Rattle.tables.specs.Tables.{lawful}
+use Rattle.tables.specs.Waits.{waits, waiters, waiters_from}
 use Rattle.tables.proofs.Laws.{lawful_at, target_below}
 use Rattle.tables.proofs.WaiterLemmas.{waiters_are_who_waits}
 use Rattle.exchange.proofs.Sums.{total, total_same, total_first, total_swap, total_of_list, count_is_total}

@@ -9,7 +9,7 @@ use Rattle.carriers.specs.declared.message.Kind.TheVariants.{Notify, Done, Grant
 use Rattle.carriers.specs.declared.message.Wait.{Wait}
 use Rattle.rows.specs.Waiting.{Waiting, among}
 use Rattle.rows.specs.Law.{rising}
-use Rattle.tables.specs.Tables.{waiters}
+use Rattle.tables.specs.Waits.{waiters}
 use Rattle.tables.proofs.Laws.{who_waits_is_a_job}
 use Rattle.tables.proofs.WaiterLemmas.{among_rising_is_not_below, waiters_are_who_waits, waiters_rise}
 use Rattle.carriers.specs.Messages.{receiver_on}

@@ -1,7 +1,7 @@
 -- The jobs that a run notifies, and those that it frees, found in rounds.
 use Rattle.std.proofs.Common.{ℕ, zero, suc, Bool, true, false, cond, not, ◌&&◌, ◌||◌, eqb, ltb, leb, List, [], ◌∷◌, length}
 use Rattle.rows.specs.Waiting.{Waiting, among}
-use Rattle.tables.specs.Grants.{count}
+use Rattle.tables.specs.ClosedSets.{count}
 use Rattle.exchange.proofs.LawfulRows.{need, targets}
 
 -- Whether something is so of a number below n, or of each.

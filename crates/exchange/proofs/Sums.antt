@@ -6,7 +6,7 @@ use Rattle.std.proofs.lemmas.Bool.{cases_eq}
 use Rattle.std.proofs.lemmas.Bool.Decides.{nat_tests}
 use Rattle.rows.specs.Waiting.{among}
 use Rattle.rows.specs.Law.{rising}
-use Rattle.tables.specs.Grants.{count}
+use Rattle.tables.specs.ClosedSets.{count}
 use Rattle.tables.proofs.WaiterLemmas.{among_rising_is_not_below}
 
 abbrev pub total : (n : ℕ) → (ℕ → ℕ) → ℕ

@@ -4,7 +4,8 @@ use Rattle.std.proofs.lemmas.List.{length-append}
 use Rattle.std.proofs.lemmas.List.Sorted.{IsPermutation-refl}
 use Rattle.carriers.specs.declared.message.Message.{Message}
 use Rattle.rows.specs.Waiting.{Waiting}
-use Rattle.tables.specs.Tables.{lawful, waits}
+use Rattle.tables.specs.Tables.{lawful}
+use Rattle.tables.specs.Waits.{waits}
 use Rattle.carriers.specs.Messages.{receiver}
 use Rattle.exchange.specs.Records.{blank}
 use Rattle.exchange.specs.Rules.{spread}

@@ -6,7 +6,8 @@ use Rattle.carriers.specs.declared.message.Kind.TheVariants.{Notify, Done, Grant
 use Rattle.carriers.specs.declared.message.Message.{Message}
 use Rattle.carriers.specs.declared.message.Wait.{Wait}
 use Rattle.rows.specs.Waiting.{Waiting, at}
-use Rattle.tables.specs.Tables.{lawful, waits}
+use Rattle.tables.specs.Tables.{lawful}
+use Rattle.tables.specs.Waits.{waits}
 use Rattle.carriers.specs.Messages.{receiver}
 use Rattle.exchange.specs.Records.{blank}
 use Rattle.exchange.specs.Limits.{deliveries_per_wait, capacity_per_wait}

@@ -6,7 +6,7 @@ use Rattle.carriers.specs.declared.message.Kind.TheVariants.{Notify, Done, Grant
 use Rattle.carriers.specs.declared.message.Message.{Message}
 use Rattle.carriers.specs.declared.message.Wait.{Wait}
 use Rattle.rows.specs.Waiting.{Waiting, at, is_active}
-use Rattle.tables.specs.Tables.{waiters}
+use Rattle.tables.specs.Waits.{waiters}
 use Rattle.exchange.specs.declared.record.RunRecord.{RunRecord}
 
 -- The wait (v, u): v waits for u.

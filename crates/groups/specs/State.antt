@@ -42,10 +42,6 @@ abbrev pub with_undo_record : {X : Type 0} → List (List X) → X → List (Lis
 with_undo_record [] x = []
 with_undo_record (g ∷ gs) x = (g ++ x ∷ []) ∷ gs
 
--- The same of a state, in which nothing else changes.
-abbrev pub state_with_undo_record : {P : Type 0} → State P → UndoRecord P → State P
-state_with_undo_record s old = record s { groups = with_undo_record s.groups old }
-
 -- A write, with what stood there kept for the innermost group.
 abbrev pub written : {P : Type 0} → State P → ℕ → P → State P
 written s job row = record s { rows = slice_set s.rows job row; groups = with_undo_record s.groups (undo_record s.rows job row) }

@@ -4,7 +4,8 @@ use Rattle.std.proofs.lemmas.List.{get_or_default, get_or_append_left, get_or-ta
 use Rattle.std.proofs.lemmas.Slice.{drop-append-drop}
 use Rattle.std.proofs.lemmas.Bool.{eq-eqb, eqb-true}
 use Rattle.rows.specs.Waiting.{Waiting, at}
-use Rattle.tables.specs.Grants.{IsClosed, IsLoosened, CanBeFreed, LoosenedCanBeFreed}
+use Rattle.tables.specs.Grants.{CanBeFreed}
+use Rattle.tables.specs.ClosedSets.{IsClosed, IsLoosened, LoosenedCanBeFreed}
 use Rattle.tables.specs.Tables.{lawful}
 use Rattle.reduction.specs.Marks.{loose, stuck, is_loose}
 use Rattle.reduction.specs.Work.{IsDecided}

@@ -6,7 +6,7 @@ use Rattle.std.proofs.lemmas.Bool.{or_cases, cases_eq, cases_lt, cases_Bool, tru
 use Rattle.std.proofs.lemmas.Bool.Decides.{nat_tests}
 use Rattle.containers.specs.Held.{Held, vacant}
 use Rattle.rows.specs.Waiting.{Waiting, at, among}
-use Rattle.tables.specs.Grants.{count, IsClosed, IsLoosened}
+use Rattle.tables.specs.ClosedSets.{count, IsClosed, IsLoosened}
 use Rattle.rows.specs.Law.{rising}
 use Rattle.rows.proofs.Laws.{fits_shaped}
 use Rattle.tables.proofs.Grants.{closed_at}

@@ -1,7 +1,8 @@
 -- What a reduction leaves.
 use Rattle.std.specs.Prelude.{◌≡◌, ℕ, ◌<◌, cond, ◌↔◌, List, length, drop, Some, None, Option, nat_lt, slice_index_or}
 use Rattle.rows.specs.Waiting.{Waiting}
-use Rattle.tables.specs.Grants.{IsClosed, IsLoosened, CanBeFreed}
+use Rattle.tables.specs.Grants.{CanBeFreed}
+use Rattle.tables.specs.ClosedSets.{IsClosed, IsLoosened}
 use Rattle.reduction.specs.Marks.{loose, stuck, is_loose}
 
 -- The check of a reduction, by its number. 10: there are fewer bytes than jobs.

@@ -1,7 +1,7 @@
 -- How far a reduction has come: what its steps keep.
 use Rattle.std.specs.Prelude.{◌≡◌, ℕ, ◌+◌, ◌-◌, ◌<◌, ◌≤◌, Bool, true, false, cond, not, ◌&&◌, ◌⊎◌, ◌↔◌, List, [], ◌∷◌, ◌++◌, length, count_by, ◌==◌, nat_eq, slice_index, slice_index_or, slice_set}
 use Rattle.rows.specs.Waiting.{Waiting, at, among}
-use Rattle.tables.specs.Grants.{count, IsLoosened}
+use Rattle.tables.specs.ClosedSets.{count, IsLoosened}
 use Rattle.tables.specs.Tables.{lawful}
 use Rattle.tables.specs.declared.table.TheConstants.{JOBS_MAX}
 use Rattle.reduction.specs.Marks.{loose, stuck, is_loose}

@@ -4,8 +4,8 @@ use Rattle.std.proofs.lemmas.Bool.{cases_Bool, cases_eq, and_parts, and_from, le
 use Rattle.std.proofs.lemmas.Bool.Decides.{nat_tests}
 use Rattle.std.specs.List.{remove}
 use Rattle.rows.specs.Waiting.{among}
-use Rattle.rows.specs.Law.{rising, target_fits, targets_fit}
-use Rattle.rows.specs.Changes.{first_wrong, without}
+use Rattle.rows.specs.Law.{rising, targets_fit}
+use Rattle.rows.specs.Changes.{target_fits, first_wrong, without}
 
 -- The length without a target that is there.
 pub without_is_one_shorter : (u : ℕ) (ts : List ℕ) → among u ts ≡ true → length (without u ts) + 1 ≡ length ts

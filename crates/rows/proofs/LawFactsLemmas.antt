@@ -3,7 +3,8 @@ use Rattle.std.proofs.Common.{◌≡◌, ℕ, zero, suc, ◌+◌, ◌<◌, ◌�
 use Rattle.std.proofs.lemmas.Bool.{cases_eq, and_parts, and_from, leb-true, eq-eqb, ne_eqb, or_right, true≢false}
 use Rattle.std.proofs.lemmas.Bool.Decides.{nat_tests}
 use Rattle.rows.specs.Waiting.{Waiting, among}
-use Rattle.rows.specs.Law.{counts_fit, rising, target_fits, targets_fit, row_fits}
+use Rattle.rows.specs.Law.{counts_fit, rising, targets_fit, row_fits}
+use Rattle.rows.specs.Changes.{target_fits}
 use Rattle.rows.specs.LawFacts.{IsLawfulRow}
 use Rattle.rows.proofs.Counts.{fit_tells}
 use Rattle.rows.proofs.Fits.{target_fit_tells, target_fit_from, fitting_rises, among_fitting_is_below}

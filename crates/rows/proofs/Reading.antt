@@ -5,7 +5,8 @@ use Rattle.std.specs.List.{list_any}
 use Rattle.std.proofs.lemmas.Option.{slice_get_past, slice_get-get_or}
 use Rattle.std.specs.Option.{option_map}
 use Rattle.std.specs.Slice.{IsGetResult}
-use Rattle.rows.specs.Waiting.{among, target_at}
+use Rattle.rows.specs.Waiting.{among}
+use Rattle.rows.specs.Places.{target_at}
 
 -- The target at a place is what `get` gives, copied.
 pub target_at_is_get : (ts : List ℕ) (place : ℕ) → target_at ts place ≡ slice_get ts place

@@ -1,7 +1,6 @@
 -- What a request and a grant make of one row, and the checks of a request that need no book.
-use Rattle.std.specs.Prelude.{ℕ, ◌+◌, ◌-◌, Bool, cond, ◌||◌, List, [], ◌∷◌, length, Some, None, Ok, Err, Option, Result, ◌==◌, nat_lt}
+use Rattle.std.specs.Prelude.{ℕ, ◌+◌, ◌-◌, Bool, cond, not, ◌&&◌, ◌||◌, List, [], ◌∷◌, length, Some, None, Ok, Err, Option, Result, ◌==◌, nat_le, nat_lt}
 use Rattle.rows.specs.Waiting.{Waiting, idle}
-use Rattle.rows.specs.Law.{target_fits}
 use Rattle.rows.specs.declared.plain.TheConstants.{TARGETS_MAX}
 use Rattle.rows.specs.declared.plain.RowFault.{RowFault}
 use Rattle.rows.specs.declared.plain.RowFault.TheVariants.{WrongCounts, WrongTarget}
@@ -9,6 +8,11 @@ use Rattle.rows.specs.declared.plain.RowFault.TheVariants.{WrongCounts, WrongTar
 -- A request is wrong in its counts: no target or more than 16, or a need of 0 or above the number of targets.
 abbrev pub wrong_counts : (need count : ℕ) → Bool
 wrong_counts need count = (count == 0 || nat_lt TARGETS_MAX count) || (need == 0 || nat_lt count need)
+
+-- Of one target: it is below n, is not the job itself, and is above the one before it; `low` is one more than that one, and 0 for the
+-- first.
+abbrev pub target_fits : (n job low t : ℕ) → Bool
+target_fits n job low t = nat_lt t n && (not (t == job) && nat_le low t)
 
 -- The place of the first target that is not below n, is the job itself or is not above the one before it;
 -- `place` is the place of the list's head, and targets below `low` are not above the one before.

@@ -2,6 +2,7 @@
 use Rattle.std.specs.Prelude.{ℕ, ◌+◌, Bool, true, cond, not, ◌&&◌, List, [], ◌∷◌, length, ◌==◌, nat_le, nat_lt}
 use Rattle.rows.specs.declared.plain.TheConstants.{TARGETS_MAX}
 use Rattle.rows.specs.Waiting.{Waiting}
+use Rattle.rows.specs.Changes.{target_fits}
 
 -- Need 0 and no target, or a need from 1 to the number of targets, of which there are at most 16.
 abbrev pub counts_fit : (need count : ℕ) → Bool
@@ -11,11 +12,6 @@ counts_fit need count = nat_le count TARGETS_MAX && cond (need == 0) (count == 0
 abbrev pub rising : (low : ℕ) → List ℕ → Bool
 rising low [] = true
 rising low (t ∷ ts) = nat_le low t && rising (t + 1) ts
-
--- Of one target: it is below n, is not the job itself, and is above the one before it; `low` is one more than that one, and 0 for the
--- first.
-abbrev pub target_fits : (n job low t : ℕ) → Bool
-target_fits n job low t = nat_lt t n && (not (t == job) && nat_le low t)
 
 -- Each target fits, and is above the one before it.
 abbrev pub targets_fit : (n job low : ℕ) → List ℕ → Bool

@@ -1,5 +1,5 @@
 -- What one job waits for, and the rows of all jobs.
-use Rattle.std.specs.Prelude.{ℕ, Bool, List, [], Option, ◌==◌, slice_get, slice_index_or}
+use Rattle.std.specs.Prelude.{ℕ, Bool, List, [], ◌==◌, slice_index_or}
 use Rattle.std.specs.List.{list_any}
 
 -- A row: how many of its targets a job still needs, and the targets, jobs that it waits for.
@@ -22,7 +22,3 @@ is_active rows job = (at rows job).need == 0
 -- Whether a job is among the targets.
 abbrev pub among : ℕ → List ℕ → Bool
 among u ts = list_any (λ t. t == u) ts
-
--- The target at a place, counted from 0; past the last, none.
-abbrev pub target_at : List ℕ → ℕ → Option ℕ
-target_at ts place = slice_get ts place

@@ -1,6 +1,6 @@
 -- The number, the value and the layer of each fault of a script.
 use Rattle.std.specs.Prelude.{ℕ, None, Option}
-use Rattle.detection.specs.Faults.{number as detection-number}
+use Rattle.detection.specs.Detected.{number as detection-number}
 use Rattle.store.specs.Faults.{number as book-number, value as book-value}
 use Rattle.scripts.specs.declared.fault.ScriptFault.{ScriptFault}
 use Rattle.scripts.specs.declared.fault.ScriptFault.TheVariants.{TooLong, UnknownLetter, CutOff, NoScriptGroup, NoAnswerSpace, OfBook, OfDetection}

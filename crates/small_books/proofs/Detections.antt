@@ -5,7 +5,8 @@ use Rattle.std.proofs.lemmas.List.{take_all, drop_all}
 use Rattle.carriers.specs.Carriers.{Carried}
 use Rattle.carriers.specs.declared.message.Message.{Message}
 use Rattle.rows.specs.Waiting.{Waiting}
-use Rattle.tables.specs.Tables.{lawful, waits}
+use Rattle.tables.specs.Tables.{lawful}
+use Rattle.tables.specs.Waits.{waits}
 use Rattle.tables.specs.Grants.{CanBeFreed}
 use Rattle.exchange.specs.Bounds.{IsBounded}
 use Rattle.exchange.specs.Records.{blank}

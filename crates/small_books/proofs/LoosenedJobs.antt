@@ -3,7 +3,7 @@ use Rattle.std.proofs.Common.{◌≡◌, ℕ, zero, suc, ◌+◌, ◌<◌, ◌�
 use Rattle.std.proofs.lemmas.Bool.{true≢false, and_parts, cases_eq, eqb-true, ltb-true, leb-true}
 use Rattle.std.proofs.lemmas.Bool.Decides.{nat_tests}
 use Rattle.rows.specs.Waiting.{Waiting, at}
-use Rattle.tables.specs.Grants.{count, IsClosed, IsLoosened}
+use Rattle.tables.specs.ClosedSets.{count, IsClosed, IsLoosened}
 use Rattle.tables.proofs.Grants.{closed_at, closed_from, loosened_can_be_freed}
 use Rattle.reduction.specs.Reduced.{Reduced}
 use Rattle.reduction.specs.Work.{IsDecided}

@@ -7,7 +7,8 @@ use Rattle.std.specs.Int.{bit_at, w64, trailing_zeros}
 use Rattle.std.proofs.Math.Pow.{pow_mono}
 use Rattle.std.proofs.Common.{Some, None}
 use Rattle.rows.specs.Waiting.{Waiting, at, among}
-use Rattle.tables.specs.Tables.{waiters, first_from}
+use Rattle.tables.specs.Tables.{first_from}
+use Rattle.tables.specs.Waits.{waiters}
 use Rattle.tables.proofs.Laws.{who_waits_is_a_job, target_below}
 use Rattle.tables.proofs.WaiterLemmas.{first_who_waits_is_the_first_waiter}
 use Rattle.tables.specs.BitMatrix.{MarksWaits, ShowsWaiters, word_end}

@@ -8,8 +8,9 @@ use Rattle.std.proofs.lemmas.Bool.{cases_eq, cases_Bool, true≢false}
 use Rattle.std.proofs.lemmas.Bool.Decides.{nat_tests}
 use Rattle.rows.specs.Waiting.{Waiting, idle, at, among}
 use Rattle.rows.specs.Changes.{without, granted}
-use Rattle.tables.specs.Tables.{waits}
-use Rattle.tables.specs.Grants.{count, IsClosed, IsLoosened, Grant, IsAllowed, granted_rows, rows_after, LawfulGrants, CanBeFreed, LoosenedCanBeFreed}
+use Rattle.tables.specs.Waits.{waits}
+use Rattle.tables.specs.Grants.{Grant, IsAllowed, granted_rows, rows_after, LawfulGrants, CanBeFreed}
+use Rattle.tables.specs.ClosedSets.{count, IsClosed, IsLoosened, LoosenedCanBeFreed}
 use Rattle.tables.proofs.Laws.{who_waits_is_a_job}
 
 -- The two rules of a closed set as one.

@@ -6,7 +6,8 @@ use Rattle.std.proofs.lemmas.Bool.{cases_lt}
 use Rattle.rows.specs.Waiting.{Waiting, idle, at}
 use Rattle.rows.specs.declared.plain.TheConstants.{TARGETS_MAX}
 use Rattle.rows.proofs.Laws.{fits_counts}
-use Rattle.tables.specs.Tables.{waiters, waits, IsTable}
+use Rattle.tables.specs.Tables.{IsTable}
+use Rattle.tables.specs.Waits.{waiters, waits}
 use Rattle.tables.specs.declared.table.TheConstants.{WAITS_MAX, JOBS_MAX}
 use Rattle.tables.proofs.Laws.{lawful_at}
 use Rattle.tables.proofs.WaiterLemmas.{waiters_from_are_few}

@@ -7,7 +7,8 @@ use Rattle.std.proofs.lemmas.Bool.Decides.{nat_tests}
 use Rattle.std.specs.List.{filter_map, range_with_len}
 use Rattle.std.specs.declared.ops.Range.{Range}
 use Rattle.rows.proofs.Reading.{target_at_is_get}
-use Rattle.rows.specs.Waiting.{among, target_at}
+use Rattle.rows.specs.Waiting.{among}
+use Rattle.rows.specs.Places.{target_at}
 
 -- There is a target at a place just when the place is within.
 pub no_target_is_past : (ts : List ℕ) (place : ℕ) → None ≡ target_at ts place → length ts ≤ place

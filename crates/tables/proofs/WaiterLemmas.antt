@@ -1,10 +1,12 @@
 -- Who waits for a job: what stands in the list of waiters, and going through it.
 use Rattle.std.proofs.Common.{◌≡◌, ℕ, zero, suc, ◌+◌, ◌<◌, ◌≤◌, true, false, eqb, leb, List, [], ◌∷◌, length, filter, Some, None, Option, MatchOption, sym, refl, ap, ◌∙◌, subst, inl, inr, ⊎_elim, add-one, arith}
 use Rattle.std.proofs.lemmas.Bool.{true≢false, cases_Bool, cases_lt, and_parts, and_from, or_cases, or_right, eqb-true, eq-eqb, ne_eqb, leb-true, leb-false, le-leb, lt-leb}
-use Rattle.rows.specs.Waiting.{Waiting, at, among, target_at}
+use Rattle.rows.specs.Waiting.{Waiting, at, among}
+use Rattle.rows.specs.Places.{target_at}
 use Rattle.rows.specs.Law.{rising}
 use Rattle.rows.proofs.Fits.{rising_from_lower}
-use Rattle.tables.specs.Tables.{waiters_from, waiters, first_from}
+use Rattle.tables.specs.Tables.{first_from}
+use Rattle.tables.specs.Waits.{waiters_from, waiters}
 use Rattle.tables.proofs.TargetLemmas.{no_target_is_past, target_past_is_none, target_is_among}
 use Rattle.tables.proofs.Laws.{who_waits_is_a_job}
 

@@ -3,7 +3,7 @@ use Rattle.std.specs.Prelude.{ℕ, List, filter, slice_range, nat_le}
 use Rattle.rows.specs.Waiting.{Waiting, at}
 use Rattle.tables.specs.declared.walks.Targets.{Targets}
 use Rattle.tables.specs.declared.walks.Waiters.{Waiters}
-use Rattle.tables.specs.Tables.{waiters}
+use Rattle.tables.specs.Waits.{waiters}
 
 -- The targets of a job at the places that are left; `rows` tells the rows of the table.
 abbrev pub targets_left : {T : Type 0} → (T → List Waiting) → Targets T → List ℕ

@@ -1,7 +1,7 @@
 // A table whose waiters are found by an index: a bit for each two jobs, set in one pass over the rows.
 ghost use Rattle.std.specs.Prelude.{◌≡◌, ◌<◌, ◌≤◌, ◌^◌, length};
 ghost use Rattle.rows.specs.Waiting.{at};
-ghost use Rattle.tables.specs.Tables.{waits as waits_of};
+ghost use Rattle.tables.specs.Waits.{waits as waits_of};
 ghost use Rattle.tables.specs.declared.table.TheConstants.{WAITS_MAX, JOBS_MAX};
 ghost use Rattle.tables.specs.BitMatrix.{MarksWaits, MarkedToo, RowMarked, ShowsWaiters, FirstUpTo, word_end};
 

@@ -1,7 +1,9 @@
 // What a table tells, and what a two-way table tells besides.
 ghost use Rattle.std.specs.Prelude.{◌≡◌, ℕ, ◌≤◌, true, List, length};
-ghost use Rattle.rows.specs.Waiting.{Waiting, at, among, target_at};
-ghost use Rattle.tables.specs.Tables.{lawful, waits, waiters, first_from};
+ghost use Rattle.rows.specs.Waiting.{Waiting, at, among};
+ghost use Rattle.rows.specs.Places.{target_at};
+ghost use Rattle.tables.specs.Tables.{lawful, first_from};
+ghost use Rattle.tables.specs.Waits.{waits, waiters};
 ghost use Rattle.tables.specs.declared.table.TheConstants.{WAITS_MAX, JOBS_MAX};
 ghost use Rattle.tables.specs.Walks.{targets_left, waiters_left};
 

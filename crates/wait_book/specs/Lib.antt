@@ -6,10 +6,13 @@ pub use Rattle.rows.specs.Waiting
 pub use Rattle.rows.specs.Law as RowLaw
 pub use Rattle.rows.specs.LawFacts
 pub use Rattle.rows.specs.Changes
+pub use Rattle.rows.specs.Places
 pub use Rattle.rows.specs.StoredRows
+pub use Rattle.tables.specs.Waits
 pub use Rattle.tables.specs.Tables
 pub use Rattle.tables.specs.declared.table.TheConstants as TableConstants
 pub use Rattle.tables.specs.Grants
+pub use Rattle.tables.specs.ClosedSets
 pub use Rattle.tables.specs.Walks
 -- Groups, calls and histories.
 pub use Rattle.groups.specs.declared.store.TheConstants as GroupConstants
@@ -50,7 +53,6 @@ pub use Rattle.exchange.specs.Rules as ExchangeRules
 pub use Rattle.exchange.specs.Runs
 pub use Rattle.exchange.specs.Verdicts
 pub use Rattle.detection.specs.Detected
-pub use Rattle.detection.specs.Faults as DetectionFaults
 -- Charts and the reduction.
 pub use Rattle.chart.specs.declared.bytes.TheConstants as ChartConstants
 pub use Rattle.chart.specs.Check

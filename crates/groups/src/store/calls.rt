@@ -2,7 +2,7 @@
 ghost use Rattle.std.specs.Prelude.{◌≡◌, ◌+◌, ◌≤◌, not, length, take, drop, is_ok, if◌then◌else◌, Some, None, Ok, Err, slice_index_or};
 ghost use Rattle.containers.specs.Held.{holding};
 ghost use Rattle.groups.specs.declared.store.TheConstants.{DEPTH_MAX, ROWS};
-ghost use Rattle.groups.specs.State.{summary, full, can_open, written, opened, kept, cancelled, rolled_back, undo_record, state_with_undo_record};
+ghost use Rattle.groups.specs.State.{summary, full, can_open, written, opened, kept, cancelled, rolled_back, undo_record, with_undo_record};
 ghost use Rattle.groups.specs.Beginning.{fresh};
 ghost use Rattle.groups.specs.TicketIds.{fits, ended_as};
 
@@ -62,7 +62,7 @@ impl<'a, P: Copy> Groups<'a, P> {
     // Writes what stands in the row of a job to the trail, inside a group; refused, with nothing changed, if that is full.
     fn record_undo(&mut self, job: u8) -> Result<(), TrailFull>
         ensures value { is_ok result ≡ not (full self.old.trail_room (summary self.old)) }
-        ensures after { (d : P) → self.new ≡ (if is_ok result then state_with_undo_record self.old (undo_record self.old.rows job d) else self.old) }
+        ensures after { (d : P) → self.new ≡ (if is_ok result then record self.old { groups = with_undo_record self.old.groups (undo_record self.old.rows job d) } else self.old) }
     {
         if self.starts.is_empty() {
             return Ok(());

@@ -1,6 +1,7 @@
 -- One more target is written.
 use Rattle.std.proofs.Common.{◌≡◌, ◌<◌, Some, sym, ◌∙◌, length, arith}
-use Rattle.rows.specs.Waiting.{at, target_at}
+use Rattle.rows.specs.Waiting.{at}
+use Rattle.rows.specs.Places.{target_at}
 use Rattle.chart.proofs.WritingLemmas.{next_place}
 use Rattle.chart.proofs.writer.row_in_bytes.Goals as goal
 

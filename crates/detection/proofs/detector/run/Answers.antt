@@ -1,6 +1,6 @@
 -- From delivery to delivery.
 use Rattle.std.proofs.Common.{◌≡◌, ℕ, ◌*◌, ◌≤◌, length, replicate, ap, ◌∙◌, arith}
-use Rattle.tables.specs.Tables.{waits}
+use Rattle.tables.specs.Waits.{waits}
 use Rattle.exchange.specs.Records.{blank}
 use Rattle.exchange.specs.declared.record.RunRecord.{RunRecord}
 use Rattle.detection.proofs.RunInvariant.{within_bounds, spread_has_room, run_begins, taken_message_is_expected, puts_have_room, run_goes_on, fewer_deliveries_are_left}

@@ -1,6 +1,6 @@
 -- The records and the carrier are those of a run; each turn is one delivery nearer to the last that there can be.
 use Rattle.std.proofs.Common.{◌-◌, ◌*◌}
-use Rattle.tables.specs.Tables.{waits}
+use Rattle.tables.specs.Waits.{waits}
 use Rattle.detection.proofs.RunInvariant.{Going, growth}
 use Rattle.detection.proofs.detector.run.Given as goal
 

@@ -1,7 +1,7 @@
 -- GRANT was put on the waits of the waiters that have come.
 use Rattle.std.proofs.Common.{ℕ}
 use Rattle.carriers.specs.declared.message.Kind.TheVariants.{Grant}
-use Rattle.tables.specs.Tables.{waiters}
+use Rattle.tables.specs.Waits.{waiters}
 use Rattle.tables.specs.Walks.{waiters_left}
 use Rattle.exchange.specs.Rules.{message, on}
 use Rattle.detection.proofs.SendLemmas.{SentFront}

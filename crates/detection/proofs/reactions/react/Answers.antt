@@ -1,6 +1,6 @@
 -- How often a job is granted, and the GRANT that frees one.
 use Rattle.std.proofs.Common.{◌≡◌, length, sym, ap, ◌∙◌, arith}
-use Rattle.tables.specs.Tables.{waiters}
+use Rattle.tables.specs.Waits.{waiters}
 use Rattle.exchange.specs.declared.record.RunRecord.{RunRecord}
 use Rattle.detection.proofs.Acts.{grant_finds_few_granted, Frees, freed_job_becomes, freed_job_has_room_for_grants, freed_job_has_room_for_ack, freed_job_sends_grants_and_ack}
 use Rattle.detection.proofs.reactions.react.Given as given

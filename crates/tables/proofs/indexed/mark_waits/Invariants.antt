@@ -1,6 +1,6 @@
 -- The waits of the rows so far are marked and counted.
 use Rattle.std.proofs.Common.{◌≡◌, take}
-use Rattle.tables.specs.Tables.{waits}
+use Rattle.tables.specs.Waits.{waits}
 use Rattle.tables.proofs.BitMatrixLemmas.{MarkedBelow}
 use Rattle.tables.proofs.indexed.mark_waits.Given as goal
 

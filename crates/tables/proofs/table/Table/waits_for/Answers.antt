@@ -4,7 +4,8 @@ use Rattle.std.proofs.lemmas.Iterator.{YieldsList-from_range}
 use Rattle.std.proofs.lemmas.Iterator.Consumers.{YieldsList-at, YieldsList-from_filter_map}
 use Rattle.std.proofs.lemmas.Iterator.Search.{any_from_yields_List}
 use Rattle.std.specs.List.{list_any}
-use Rattle.rows.specs.Waiting.{at, target_at}
+use Rattle.rows.specs.Waiting.{at}
+use Rattle.rows.specs.Places.{target_at}
 use Rattle.rows.proofs.Reading.{some_is_the_job}
 use Rattle.tables.proofs.TargetLemmas.{targets_by_place}
 use Rattle.tables.proofs.table.Table.waits_for.Goals as goal

@@ -1,6 +1,6 @@
 -- The item of the targets is the target at the place.
 use Rattle.std.proofs.Common.{ℕ, List, ap, ◌∙◌}
-use Rattle.rows.specs.Waiting.{target_at}
+use Rattle.rows.specs.Places.{target_at}
 use Rattle.rows.proofs.Reading.{item_is_target}
 use Rattle.chart.proofs.chart.reads.ChartTable.target.Goals as goal
 

@@ -1,5 +1,6 @@
 use Rattle.std.proofs.Common.{ap, ◌∙◌}
-use Rattle.rows.specs.Waiting.{Waiting, target_at}
+use Rattle.rows.specs.Waiting.{Waiting}
+use Rattle.rows.specs.Places.{target_at}
 use Rattle.rows.proofs.Reading.{item_is_target}
 use Rattle.store.proofs.store.questions.StoreTable.target.Goals as goal
 
