@@ -4,11 +4,13 @@
 #![tactic(auto)]
 
 mod book;
+mod law;
 mod life;
 mod ticket;
 
 pub use book::Book;
 pub use groups::{DEPTH_MAX, Ending, TRAIL_MAX, TicketId, UndoRecord};
+pub use law::plain_books_simulate_histories;
 pub use life::{Answer, Call, Creation, Moment, TooFewMoments, live};
 pub use rows::{PlainRow, TARGETS_MAX};
 pub use scripts::{FinishedScript, SCRIPT_MAX, ScriptFault, StoppedScript};

@@ -18,7 +18,7 @@ tidy_longer n m [] p l t = absurd (omega arith)
 tidy_longer n m (s ∷ ss) p l t = grind (arith, nat_tests)
 
 module _ {X : Type 0} where
-  length_parts : (xs : List X) (ss : List ℕ) → length (parts xs ss) ≡ length ss
+  pub length_parts : (xs : List X) (ss : List ℕ) → length (parts xs ss) ≡ length ss
   length_parts xs [] = refl
   length_parts xs (s ∷ ss) = ap suc (length_parts (take s xs) ss)
 
@@ -37,7 +37,7 @@ module _ {X : Type 0} where
       omega (arith, sum_by-cons length (drop s xs) (parts (take s xs) ss), inner, length-take-le s xs w, length-drop s xs)
 
   -- a record more goes to the innermost group
-  parts_recorded : (xs : List X) (ss : List ℕ) (x : X) → 0 < length ss → tidy (length xs) ss ≡ true → (tidy (length (xs ++ x ∷ [])) ss ≡ true) × (parts (xs ++ x ∷ []) ss ≡ with_undo_record (parts xs ss) x)
+  pub parts_recorded : (xs : List X) (ss : List ℕ) (x : X) → 0 < length ss → tidy (length xs) ss ≡ true → (tidy (length (xs ++ x ∷ [])) ss ≡ true) × (parts (xs ++ x ∷ []) ss ≡ with_undo_record (parts xs ss) x)
   parts_recorded xs [] x p t = absurd (omega arith)
   parts_recorded xs (s ∷ ss) x p t =
       let l = tidy_within (length xs) s ss t in

@@ -11,7 +11,7 @@ use Rattle.groups.specs.Beginning.{fresh}
 use Rattle.groups.specs.StateViews.{undo_record_view, view}
 use Rattle.groups.proofs.RollBackLemmas.{same_state}
 
-length-rolled_back : {P : Type 0} (rows : List P) (os : List (UndoRecord P)) → length (rolled_back rows os) ≡ length rows
+pub length-rolled_back : {P : Type 0} (rows : List P) (os : List (UndoRecord P)) → length (rolled_back rows os) ≡ length rows
 length-rolled_back rows [] = refl
 length-rolled_back rows (o ∷ os) = length-set (rolled_back rows os) o.job o.row ∙ length-rolled_back rows os
 

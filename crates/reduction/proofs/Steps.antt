@@ -16,7 +16,7 @@ use Rattle.tables.proofs.WaiterLemmas.{among_rising_is_not_below}
 use Rattle.reduction.specs.Marks.{loose, stuck, is_loose}
 use Rattle.tables.specs.Tables.{lawful}
 use Rattle.tables.specs.declared.table.TheConstants.{JOBS_MAX}
-use Rattle.reduction.specs.Work.{Work, loose_count, is_processed, steps_left, NoneTwice, SoundMarks, Lacks, IsSaturated, IsCurrent, CanBeLoosened, with_loose, one_less, lowered, CanBeLowered, IsDecided}
+use Rattle.reduction.specs.Work.{Work, loose_count, is_processed, steps_left, NoneTwice, SoundMarks, Lacks, IsSaturated, IsCurrent, CanBeLoosened, with_loose, one_less, lowered, CanBeLowered, IsDecided, AllWait}
 
 -- ---- counts
 
@@ -189,6 +189,31 @@ stuck_everywhere : (n v : ℕ) → is_loose (replicate n stuck) v ≡ false
 stuck_everywhere n v = elim (cases_lt v n) [
   | inl l ↦ ap (λ m. eqb m loose) (get_or-replicate n v stuck stuck l)
   | inr l ↦ ap (λ m. eqb m loose) (get_or_past (replicate n stuck) v stuck (omega (arith, length-replicate n stuck)))
+]
+
+-- where no job is active, the set of no job is closed, and so no job is loosened
+module _ (rows : List Waiting) (blocked : AllWait rows (length rows)) where
+  none_is_closed : IsClosed rows (λ (_ : ℕ). false)
+  none_is_closed = record {
+    active = λ v h z. absurd (let p = blocked v h in omega (arith, z));
+    blocked = λ v h p n. absurd (let none = count_none (λ (_ : ℕ). false) (at rows v).targets (λ u. refl) in omega (arith, p, n));
+  }
+
+  pub all_stuck : IsDecided rows (replicate (length rows) stuck)
+  all_stuck = record {
+    len = omega (arith, length-replicate (length rows) stuck);
+    bits = λ v h. inr (get_or-replicate (length rows) v stuck stuck h);
+    loosened = λ v h. (
+      λ m. absurd (true≢false (sym m ∙ stuck_everywhere (length rows) v)),
+      λ all. absurd (true≢false (sym (all (λ (_ : ℕ). false) none_is_closed))),
+    );
+  }
+
+-- one job more that waits
+pub one_more_waits : (rows : List Waiting) (n need : ℕ) → need ≡ (at rows n).need → 0 < need → AllWait rows n → AllWait rows (n + 1)
+one_more_waits rows n need e p w v l = elim (cases_eq v n) [
+  | inl here ↦ subst (λ (k : ℕ). 0 < (at rows k).need) (sym here) (subst (λ (k : ℕ). 0 < k) e p)
+  | inr there ↦ w v (omega (arith, l, there))
 ]
 
 pub start_base : (rows : List Waiting) → lawful rows ≡ true → length rows ≤ JOBS_MAX → SoundMarks (record { rows = rows; marks = replicate JOBS_MAX stuck; lacking = replicate JOBS_MAX 0; queue = [] })

@@ -93,3 +93,7 @@ pub record IsDecided (rows : List Waiting) (marks : List ℕ) : Type 0 where
   pub len : length rows ≤ length marks
   pub bits : (v : ℕ) → v < length rows → (slice_index_or marks v stuck ≡ loose) ⊎ (slice_index_or marks v stuck ≡ stuck)
   pub loosened : (v : ℕ) → v < length rows → (is_loose marks v ≡ true) ↔ IsLoosened rows v
+
+-- None of the first n jobs is active.
+abbrev pub AllWait : List Waiting → (n : ℕ) → Type 0
+AllWait rows n = (v : ℕ) → v < n → 0 < (at rows v).need

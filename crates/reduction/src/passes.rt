@@ -1,11 +1,12 @@
 // The reduction: jobs are loosened one after the other, until no more can be.
-ghost use Rattle.std.specs.Prelude.{◌≡◌, length, MatchResult};
-ghost use Rattle.reduction.specs.Work.{IsDecided};
+ghost use Rattle.std.specs.Prelude.{◌≡◌, true, length, MatchResult};
+ghost use Rattle.reduction.specs.Work.{IsDecided, AllWait};
 ghost use Rattle.reduction.specs.Faults.{refusal_number};
 ghost use Rattle.reduction.specs.Reduced.{stop, Reduced};
 
 use crate::fault::ReductionFault;
 use crate::marking::Marking;
+use crate::marks::STUCK;
 use containers::{Container, Queue};
 use tables::{INDEX_WORDS, Indexed, JOBS_MAX, Table};
 
@@ -20,10 +21,27 @@ pub fn reduce<T: Table>(table: &T, bytes: &mut [u8]) -> Result<(), ReductionFaul
     if bytes.len() < jobs {
         return Err(ReductionFault::TooShort);
     }
+    // then none can be loosened, whatever they wait for
+    if none_is_active(table) {
+        bytes[..jobs].fill(STUCK);
+        return Ok(());
+    }
     let mut words = [0; INDEX_WORDS];
     let marks = marks_of(&Indexed::new(table, &mut words));
     bytes[..jobs].copy_from_slice(&marks[..jobs]);
     Ok(())
+}
+
+// Whether no job is active. A loop: it is nearly all that a reduction of stuck jobs does, and a chain takes longer.
+fn none_is_active<T: Table>(table: &T) -> bool
+    ensures { result ≡ true → AllWait (T.Table.rows table.now) (length (T.Table.rows table.now)) }
+{
+    for job in 0..table.jobs() {
+        if table.need(job) == 0 {
+            return false;
+        }
+    }
+    true
 }
 
 // The marks of a table's jobs, when no more can be loosened.

@@ -5,7 +5,7 @@ use Rattle.rows.specs.Obeys.{rows_obey}
 
 module _ {P : Type 0} (law : ℕ → P → Bool) where
   -- the law of the row at a place
-  obeyed_from : (job : ℕ) (rows : List P) (k : ℕ) (d : P) → k < length rows → rows_obey law job rows ≡ true → law (k + job) (get_or rows k d) ≡ true
+  pub obeyed_from : (job : ℕ) (rows : List P) (k : ℕ) (d : P) → k < length rows → rows_obey law job rows ≡ true → law (k + job) (get_or rows k d) ≡ true
   obeyed_from job [] k d l o = absurd (omega arith)
   obeyed_from job (r ∷ rs) zero d l o = let e : job ≡ 0 + job = omega arith in subst (λ n. law n r ≡ true) e (and_parts (law job r) _ o).0
   obeyed_from job (r ∷ rs) (suc k) d l o =

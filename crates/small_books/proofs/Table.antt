@@ -12,7 +12,7 @@ use Rattle.book.specs.Plain.{plain}
 use Rattle.chart.specs.Check.{checked, chart_rows}
 
 limits_hold : AllByRecursion Holds limit_lines
-limits_hold = (refl, (refl, (refl, (refl, (refl, (refl, (refl, (refl, (refl, (refl, (refl, (refl, (refl, tt)))))))))))))
+limits_hold = (refl, (refl, (refl, (refl, (refl, (refl, (refl, (refl, (refl, (refl, (refl, (refl, (refl, (refl, tt))))))))))))))
 
 -- Four rounds are enough for each run.
 told : {a : RunLine} → computes 4 a ≡ true → Tells a

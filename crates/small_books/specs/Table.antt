@@ -4,7 +4,7 @@ use Rattle.carriers.specs.CountedCarriers.{new_carrier}
 use Rattle.rows.specs.Waiting.{idle}
 use Rattle.rows.specs.declared.plain.TheConstants.{TARGETS_MAX}
 use Rattle.tables.specs.declared.table.TheConstants.{WAITS_MAX, JOBS_MAX}
-use Rattle.groups.specs.declared.store.TheConstants.{TRAIL_MAX, DEPTH_MAX}
+use Rattle.groups.specs.declared.store.TheConstants.{TRAIL_MAX, DEPTH_MAX, ROWS}
 use Rattle.exchange.specs.Records.{blank}
 use Rattle.exchange.specs.Limits.{deliveries_per_wait, capacity_per_wait}
 use Rattle.chart.specs.Faults.{refused as chart_refused}
@@ -30,6 +30,7 @@ limit_lines =
     ∷ limited WAITS_MAX 4096
     ∷ limited TRAIL_MAX 1024
     ∷ limited DEPTH_MAX 8
+    ∷ limited ROWS 256
     ∷ limited ROW_BYTES 18
     ∷ limited CHART_MAX 4608
     ∷ limited SCRIPT_MAX 8192

@@ -70,14 +70,14 @@ row_there None row e h = absurd (cc h)
 row_there (Some v) row e h = let same : row ≡ v = cc h in ap (λ r. Some (waiting_of r)) same
 
 -- a row that is granted, or is not there to be
-grant_none : (u : ℕ) (w : Waiting) → None ≡ granted_by u w → among u w.targets ≡ false
+pub grant_none : (u : ℕ) (w : Waiting) → None ≡ granted_by u w → among u w.targets ≡ false
 grant_none u w e = go (among u w.targets) e
   where
     go : (q : Bool) → None ≡ cond {A = Option Waiting} q (Some (granted u w)) None → q ≡ false
     go true h = absurd (cc h)
     go false h = refl
 
-grant_some : (u : ℕ) (w v : Waiting) → Some v ≡ granted_by u w → (among u w.targets ≡ true) × (v ≡ granted u w)
+pub grant_some : (u : ℕ) (w v : Waiting) → Some v ≡ granted_by u w → (among u w.targets ≡ true) × (v ≡ granted u w)
 grant_some u w v e = go (among u w.targets) e
   where
     go : (q : Bool) → Some v ≡ cond {A = Option Waiting} q (Some (granted u w)) None → (q ≡ true) × (v ≡ granted u w)

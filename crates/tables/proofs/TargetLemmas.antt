@@ -1,10 +1,10 @@
 -- Looking through targets, place by place.
-use Rattle.std.proofs.Common.{◌≡◌, ℕ, zero, suc, ◌+◌, ◌-◌, ◌<◌, ◌≤◌, true, ◌||◌, eqb, List, [], ◌∷◌, ◌++◌, length, get_or, take, drop, slice_range, Some, None, Option, MatchOption, sym, ap, ◌∙◌, add-one, arith}
+use Rattle.std.proofs.Common.{◌≡◌, ℕ, zero, suc, ◌+◌, ◌-◌, ◌<◌, ◌≤◌, Bool, true, false, ◌||◌, eqb, List, [], ◌∷◌, ◌++◌, length, get_or, take, drop, slice_range, Some, None, Option, MatchOption, sym, ap, ◌∙◌, add-one, arith}
 use Rattle.std.proofs.lemmas.List.{at_drop_all, drop_all, drop_more, take_all}
 use Rattle.std.proofs.lemmas.Option.{slice_get_past, slice_get-get_or}
 use Rattle.std.proofs.lemmas.Bool.{or_right, eq-eqb}
 use Rattle.std.proofs.lemmas.Bool.Decides.{nat_tests}
-use Rattle.std.specs.List.{filter_map, range_with_len}
+use Rattle.std.specs.List.{filter_map, list_any, range_with_len}
 use Rattle.std.specs.declared.ops.Range.{Range}
 use Rattle.rows.proofs.Reading.{target_at_is_get}
 use Rattle.rows.specs.Waiting.{among}
@@ -38,6 +38,19 @@ targets_by_place ts (suc n) place l =
     let within : place < length ts = omega arith in
     let here : target_at ts place ≡ Some (get_or ts place 0) = target_at_is_get ts place ∙ slice_get-get_or ts place 0 within in
     rw here (ap (λ rest. get_or ts place 0 ∷ rest) (targets_by_place ts n (place + 1) (omega arith))) ∙ sym (drop_more ts place 0 within)
+
+-- Whether a place has a job as its target.
+abbrev pub is_target : ℕ → Option ℕ → Bool
+is_target u None = false
+is_target u (Some t) = eqb t u
+
+-- Some place has a job just where some target is the job.
+pub some_place_has_it : (u : ℕ) (ts : List ℕ) (n place : ℕ) → place + n ≡ length ts → list_any (λ p. is_target u (target_at ts p)) (range_with_len place n) ≡ list_any (λ t. eqb t u) (drop place ts)
+some_place_has_it u ts zero place l = ap (list_any (λ t. eqb t u)) (sym (drop_all place ts (omega arith)))
+some_place_has_it u ts (suc n) place l =
+    let within : place < length ts = omega arith in
+    let here : target_at ts place ≡ Some (get_or ts place 0) = target_at_is_get ts place ∙ slice_get-get_or ts place 0 within in
+    rw here (ap (λ rest. eqb (get_or ts place 0) u || rest) (some_place_has_it u ts n (place + 1) (omega arith))) ∙ ap (list_any (λ t. eqb t u)) (sym (drop_more ts place 0 within))
 
 -- What is left from one place up to another, at a target and past the last.
 pub targets_left_at_a_target : (ts : List ℕ) (from to t : ℕ) → from < to → target_at ts from ≡ Some t → slice_range ts from to ≡ t ∷ slice_range ts (from + 1) to

@@ -43,9 +43,10 @@ pub trait Table {
         ensures { result ≡ among job (at (rows self.now) waiter).targets }
     {
         // by the places: `targets` would be no plainer, since only a sized table has it, and a `dyn` one would lose this method
-        (0..self.target_count(waiter))
-            .filter_map(|place| self.target(waiter, place))
-            .any(|target| target as usize == job)
+        (0..self.target_count(waiter)).any(|place| {
+            self.target(waiter, place)
+                .is_some_and(|target| target as usize == job)
+        })
     }
 
     /// How many waits there are, from 0 to 4,096: each target of each row is one.

@@ -8,15 +8,15 @@
 //! - [`detect`] tells of one job whether it is stuck, by messages over a carrier: a [`QueueCarrier`], a [`StackCarrier`] or a [`Picker`].
 //! - [`Chart`] is a book read from bytes, [`write_chart`] writes one, and [`reduce`] tells of all jobs which are stuck.
 //! - [`live`] lives a whole life of a book by one call.
-//! - [`books_simulate_histories`], [`lives_follow`], [`runs_are_bounded`], [`ended_runs_tell`], [`loosened_jobs_can_be_freed`] and
-//!   [`row_law_is_tested`] have nothing to run: their contracts are theorems.
+//! - [`plain_books_simulate_histories`], [`books_simulate_histories`], [`lives_follow`], [`runs_are_bounded`], [`ended_runs_tell`],
+//!   [`loosened_jobs_can_be_freed`] and [`row_law_is_tested`] have nothing to run: their contracts are theorems.
 #![tactic(auto)]
 
 pub use book::{
     Answer, Book, BookFault, Call, Creation, DEPTH_MAX, Edit, Ending, FinishedScript, JOBS_MAX,
     Moment, PlainRow, RefusedEnding, RefusedTicketId, SCRIPT_MAX, ScriptFault, Snapshot,
     StoppedScript, TARGETS_MAX, TRAIL_MAX, Table, Ticket, TicketId, TooFewMoments, TwoWayTable,
-    UndoRecord, WAITS_MAX, live,
+    UndoRecord, WAITS_MAX, live, plain_books_simulate_histories,
 };
 pub use carriers::{
     Carrier, CarrierFull, Kind, Message, Picker, QueueCarrier, StackCarrier, Wait, drain,

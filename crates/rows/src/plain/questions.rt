@@ -1,9 +1,10 @@
 // What a row tells.
-ghost use Rattle.std.specs.Prelude.{◌≡◌};
+ghost use Rattle.std.specs.Prelude.{◌≡◌, length};
 ghost use Rattle.rows.specs.Waiting.{among};
+ghost use Rattle.rows.specs.Places.{target_at};
 ghost use Rattle.rows.specs.StoredRows.{waiting, waiting_of};
 
-use crate::parts::stands_somewhere;
+use crate::parts::{place_of, stands_somewhere};
 use crate::plain::{PlainRow, Row};
 
 impl PlainRow {
@@ -38,5 +39,26 @@ impl Row {
         ensures { result ≡ (waiting_of self.now).need }
     {
         self.plain.need
+    }
+
+    /// How many targets the job waits for, at most 16: 0 exactly if it is active.
+    pub fn count(&self) -> usize
+        ensures { result ≡ length (waiting_of self.now).targets }
+    {
+        self.targets().len()
+    }
+
+    /// The target at a place, which counts from 0 by rising target; past the last, none.
+    pub fn target(&self, place: usize) -> Option<u8>
+        ensures { result ≡ target_at (waiting_of self.now).targets place }
+    {
+        self.targets().get(place).copied()
+    }
+
+    /// Whether the job waits for another one: whether this is among its targets.
+    pub fn waits_for(&self, job: usize) -> bool
+        ensures { result ≡ among job (waiting_of self.now).targets }
+    {
+        place_of(self.targets(), job).is_some()
     }
 }

@@ -53,7 +53,7 @@ impl<'a> Store<'a> {
         if job >= jobs {
             return Err(BookFault::NoSuchJob);
         }
-        if self.row(job).need() > 0 {
+        if self.need(job) > 0 {
             return Err(BookFault::Blocked);
         }
         let row = Row::request(jobs, job, need, targets)?;
@@ -72,7 +72,7 @@ impl<'a> Store<'a> {
         if granter >= jobs || waiter >= jobs {
             return Err(BookFault::NoSuchJob);
         }
-        if self.row(granter).need() > 0 {
+        if self.need(granter) > 0 {
             return Err(BookFault::GranterBlocked);
         }
         let row = self

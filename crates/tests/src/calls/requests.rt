@@ -1,6 +1,20 @@
-// Requests: the refusals in their order.
+// Requests: the limit of the targets, and the refusals in their order.
 use crate::common::*;
 use book::{Book, BookFault};
+
+// Sixteen targets, and one more.
+const MANY: [u8; 17] = [0, 1, 2, 3, 4, 5, 6, 7, 8, 9, 10, 11, 12, 13, 14, 15, 16];
+
+#[test]
+fn waits_for_sixteen(rt: HostRuntime) {
+    let mut memory = trail::<1>();
+    let mut book = Book::new(18, MARK, &mut memory);
+    assert_eq!(rt; number_of(book.request(17, 16, &MANY)), 3);
+    assert_eq!(rt; number_of(book.request(17, 1, &MANY)), 3);
+    assert!(rt; is_row(&book, 17, 0, &[]));
+    assert_eq!(rt; number_of(book.request(17, 16, &MANY[..16])), 0);
+    assert!(rt; is_row(&book, 17, 16, &MANY[..16]));
+}
 
 // A request is refused with this number and value.
 fn refused(answer: Result<(), BookFault>, number: u8, value: Option<usize>) -> bool {
