@@ -37,12 +37,6 @@ impl<'a> Table for Chart<'a> {
     fn target(&self, job: usize, place: usize) -> Option<u8> {
         self.targets_of(job).get(place).copied()
     }
-
-    fn waits_for(&self, waiter: usize, job: usize) -> bool {
-        self.targets_of(waiter)
-            .iter()
-            .any(|target| *target as usize == job)
-    }
 }
 
 impl<'a> TwoWayTable for Chart<'a> {}
