@@ -4,7 +4,7 @@ use Rattle.std.proofs.lemmas.List.{set-set, set-get_or}
 use Rattle.std.proofs.lemmas.Bool.{eq-eqb, lt-ltb}
 use Rattle.wait_book.specs.State.{summary, innermost, with_undo_record, merged, undo_record, opened}
 use Rattle.groups.proofs.RollBackLemmas.{same_state}
-use Rattle.wait_book.specs.Calls.{edits, opens, keeps, cancels, Answer, ticket, accepted, too_deep}
+use Rattle.wait_book.specs.Calls.{edits, opens, keeps, cancels, Answer, done, ticket, accepted, too_deep}
 use Rattle.wait_book.specs.Rules.{BookState, book_state, Rules, changed, says, after}
 use Rattle.wait_book.specs.CallSteps.{CallStep}
 
@@ -13,7 +13,7 @@ module _ {P E K : Type 0} (R : Rules P E K) where
   opening s = book_state s.fixed (opened s.state)
 
   -- what an opening that gives a ticket says of it, and does
-  ticket_given : (s : BookState P K) (m d : ℕ) → ticket m d ≡ says R s opens → (m ≡ s.state.mark) × (d ≡ (summary s.state).depth + 1) × (after R s opens ≡ opening s)
+  pub ticket_given : (s : BookState P K) (m d : ℕ) → ticket m d ≡ says R s opens → (m ≡ s.state.mark) × (d ≡ (summary s.state).depth + 1) × (after R s opens ≡ opening s)
   ticket_given s m d e = go (ltb (summary s.state).depth 8) e
     where
       go : (q : Bool) → ticket m d ≡ cond q (ticket s.state.mark ((summary s.state).depth + 1)) too_deep → (m ≡ s.state.mark) × (d ≡ (summary s.state).depth + 1) × (cond (accepted (cond q (ticket s.state.mark ((summary s.state).depth + 1)) too_deep)) (opening s) s ≡ opening s)
@@ -43,7 +43,14 @@ module _ {P E K : Type 0} (R : Rules P E K) where
       let c : ltb 0 d ≡ true = lt-ltb _ _ (omega (arith, q)) in
       rw (a, b, c)
 
-  cancelled_round : (s : BookState P K) (e : E) (m d : ℕ) → m ≡ s.state.mark → d ≡ (summary s.state).depth + 1 → after R (after R (opening s) (edits e)) (cancels m d) ≡ s
+  -- and so the group can be kept or cancelled by it
+  pub keep_told : (s : BookState P K) (e : E) (m d : ℕ) → m ≡ s.state.mark → d ≡ (summary s.state).depth + 1 → says R (after R (opening s) (edits e)) (keeps m d) ≡ done
+  keep_told s e m d p q = rw (fits_still s e m d p q)
+
+  pub cancel_told : (s : BookState P K) (e : E) (m d : ℕ) → m ≡ s.state.mark → d ≡ (summary s.state).depth + 1 → says R (after R (opening s) (edits e)) (cancels m d) ≡ done
+  cancel_told s e m d p q = rw (fits_still s e m d p q)
+
+  pub cancelled_round : (s : BookState P K) (e : E) (m d : ℕ) → m ≡ s.state.mark → d ≡ (summary s.state).depth + 1 → after R (after R (opening s) (edits e)) (cancels m d) ≡ s
   cancelled_round s e m d p q = rw (fits_still s e m d p q) (go (accepted (says R (opening s) (edits e))))
     where
       go : (r : Bool) → changed R (cond r (changed R (opening s) (edits e)) (opening s)) (cancels m d) ≡ s
@@ -58,7 +65,7 @@ module _ {P E K : Type 0} (R : Rules P E K) where
   recorded_groups [] x = refl
   recorded_groups (g ∷ gs) x = refl
 
-  kept_round : (s : BookState P K) (e : E) (m d : ℕ) → m ≡ s.state.mark → d ≡ (summary s.state).depth + 1 → after R (after R (opening s) (edits e)) (keeps m d) ≡ cond (accepted (says R (opening s) (edits e))) (changed R s (edits e)) s
+  pub kept_round : (s : BookState P K) (e : E) (m d : ℕ) → m ≡ s.state.mark → d ≡ (summary s.state).depth + 1 → after R (after R (opening s) (edits e)) (keeps m d) ≡ cond (accepted (says R (opening s) (edits e))) (changed R s (edits e)) s
   kept_round s e m d p q = rw (fits_still s e m d p q) (go (accepted (says R (opening s) (edits e))))
     where
       go : (r : Bool) → changed R (cond r (changed R (opening s) (edits e)) (opening s)) (keeps m d) ≡ cond r (changed R s (edits e)) s

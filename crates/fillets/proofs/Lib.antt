@@ -1,2 +1,2 @@
 -- The lemmas, by topic.
-mod GroupedEdit
+pub mod GroupedEdit
